@@ -1,0 +1,16 @@
+//! The guest machine: RV32IM states, memory, and the definitions that say what a program alone does.
+#![tactic(auto)]
+
+mod difference;
+mod end;
+mod instr;
+mod memory;
+mod registers;
+mod state;
+
+pub use difference::Difference;
+pub use end::{End, Trap};
+pub use instr::{Cond, ImmOp, Instr, LoadWidth, RegOp, StoreWidth, UpperOp};
+pub use memory::{Memory, StoreFault};
+pub use registers::Regs;
+pub use state::{Heap, State};
