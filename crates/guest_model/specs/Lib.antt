@@ -1,7 +1,11 @@
 pub mod Arithmetic
 pub mod ByteMap
+pub mod Difference
 pub mod Effect
 pub mod InstructionTable
 pub mod MachineState
 pub mod Registers
+pub mod Rv32
+pub mod Service
+pub mod Step
 pub mod Word
