@@ -8,6 +8,7 @@ mod memory;
 mod registers;
 mod state;
 
+pub use basic_types::{Bytes, NoMemory, Steps};
 pub use difference::Difference;
 pub use end::{End, Trap};
 pub use instr::{Cond, ImmOp, Instr, LoadWidth, RegOp, StoreWidth, UpperOp};
