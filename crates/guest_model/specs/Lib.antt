@@ -1,9 +1,12 @@
+pub mod AreaMap
 pub mod Arithmetic
 pub mod ByteMap
 pub mod Difference
 pub mod Effect
+pub mod Flat
 pub mod InstructionTable
 pub mod MachineState
+pub mod Place
 pub mod Registers
 pub mod Rv32
 pub mod Service

@@ -1,13 +1,18 @@
 //! The guest machine: RV32IM states, memory, and the definitions that say what a program alone does.
 #![tactic(auto)]
 
+mod access;
+mod areas;
 mod difference;
 mod end;
+mod flat;
 mod instr;
 mod memory;
+
 mod registers;
 mod state;
 
+pub use areas::{Area, Areas};
 pub use basic_types::{Bytes, NoMemory, Steps};
 pub use difference::Difference;
 pub use end::{End, Trap};

@@ -1,0 +1,3 @@
+pub mod OnByteMap
+pub mod OnAreas
+pub mod OnPlaces
