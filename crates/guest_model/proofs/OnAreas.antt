@@ -42,10 +42,6 @@ pub areas_bytes-none : (xs : List Area) (q : ℕ) → ((k : ℕ) (d : Area) → 
 areas_bytes-none [] q h = refl
 areas_bytes-none (x ∷ xs) q h = skipped x xs q (h 0 x (omega arith)) ∙ areas_bytes-none xs q (λ k d l. h (suc k) d (omega arith))
 
--- no byte from 2 ^ 32 on
-pub areas_bytes-bounded : (xs : List Area) (q : ℕ) → All IsWithinSpace xs → 2 ^ 32 ≤ q → areas_bytes xs q ≡ None
-areas_bytes-bounded xs q w b = areas_bytes-none xs q (λ k d l. let e : IsWithinSpace (get_or xs k d) = w k d l in covers-after (get_or xs k d) q (omega arith))
-
 -- ---- an area in another's place, with the same addresses
 
 covers-same : (x y : Area) (q : ℕ) → y.base ≡ x.base → length y.bytes ≡ length x.bytes → covers y q ≡ covers x q

@@ -1,6 +1,8 @@
 -- The memory that areas of bytes make
-use Rattle.std.specs.Prelude.{◌≡◌, ℕ, ◌+◌, ◌-◌, ◌*◌, ◌%◌, ◌^◌, ◌<◌, ◌≤◌, Bool, ◌&&◌, nat_le, nat_lt, List, length, slice_index, Option, option_map}
+use Rattle.std.specs.Prelude.{◌≡◌, ℕ, suc, ◌+◌, ◌-◌, ◌*◌, ◌%◌, ◌^◌, ◌<◌, ◌≤◌, Bool, false, ◌&&◌, nat_le, nat_lt, List, [], ◌∷◌, length, slice_index, Option, None, option_map, refl}
 use Rattle.std.specs.List.{find, All, AllPairs}
+use Rattle.std.proofs.Common.{arith}
+use Rattle.std.proofs.lemmas.Bool.Decides.{nat_tests}
 use Rattle.guest_model.specs.ByteMap.{ByteMap}
 use Rattle.guest_model.specs.declared.areas.Area.{Area}
 
@@ -29,3 +31,14 @@ pub record IsLayout (xs : List Area) : Type 0 where
   pub aligned : All IsPageAligned xs
   pub rising : AllPairs IsBelow xs
   pub within : All IsWithinSpace xs
+
+covers_nothing : (x : Area) (q : ℕ) → x.base + length x.bytes ≤ q → covers x q ≡ false
+covers_nothing x q h = grind (arith, nat_tests)
+
+-- no byte from 2 ^ 32 on
+pub areas_bytes-bounded : (xs : List Area) (q : ℕ) → All IsWithinSpace xs → 2 ^ 32 ≤ q → areas_bytes xs q ≡ None
+areas_bytes-bounded [] q h b = refl
+areas_bytes-bounded (x ∷ xs) q h b =
+    let e : covers x q ≡ false = covers_nothing x q (omega (arith, h 0 x (omega arith))) in
+    let t : areas_bytes xs q ≡ None = areas_bytes-bounded xs q (λ k d l. h (suc k) d (omega arith)) b in
+    grind (arith, nat_tests)

@@ -16,6 +16,7 @@ pub use areas::{Area, Areas};
 pub use basic_types::{Bytes, NoMemory, Steps};
 pub use difference::Difference;
 pub use end::{End, Trap};
+pub use flat::FlatMemory;
 pub use instr::{Cond, ImmOp, Instr, LoadWidth, RegOp, StoreWidth, UpperOp};
 pub use memory::{Memory, StoreFault};
 pub use registers::Regs;
