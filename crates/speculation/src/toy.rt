@@ -171,8 +171,8 @@ pub fn first_difference(a: State, b: State) -> Option<Difference>
     }
 }
 
-#[tactic(auto, using(crate::proofs::ToyRuns::loop_laws))]
 /// Runs the program from a state for at most `limit` instructions.
+#[tactic(auto, using(crate::proofs::ToyRuns::loop_laws))]
 pub fn run(program: &[Instruction], start: State, limit: u64) -> Tally
     ensures { Tells result (alone (toy program.now) start limit) }
 {
