@@ -1,7 +1,7 @@
 -- A plain run as one record, taken from its first instruction on. The program alone is such a run within its budget.
 use Rattle.std.specs.Prelude.{◌≡◌, ℕ, zero, suc, List, [], ◌∷◌, ◌++◌, Option, Some, None}
 use Rattle.speculation.specs.Machine.{Machine, Stepped, Next, Ends}
-use Rattle.speculation.specs.Run.{Piece, Mark, marks}
+use Rattle.speculation.specs.Run.{Piece, Mark, marks, fresh, go, pieces, taken}
 
 -- what a run wrote, its end (none where all instructions were spent), its last state and its count
 pub record Ran (S E : Type 0) : Type 0 where
@@ -45,3 +45,12 @@ output_of r = marks r.pieces
 -- these come first in those
 abbrev pub IsPrefixOf : {A : Type 0} → List A → List A → Type 0
 IsPrefixOf {A} xs ys = (rest : List A) × (xs ++ rest ≡ ys)
+
+-- The same run, grown at its end, which is how the definitions of tracks speak of it; both are equal.
+abbrev pub grown : {S E D : Type 0} → Machine S E D → S → ℕ → Ran S E
+grown m s n = record {
+  pieces = pieces m (fresh s) 0 n;
+  end = (go m (fresh s) n).end;
+  last = (go m (fresh s) n).state;
+  count = taken m (fresh s) n;
+}

@@ -8,6 +8,8 @@
 #![tactic(auto)]
 
 pub mod history;
+pub mod laws;
+pub mod toy;
 pub mod tracks;
 
 pub use history::{Entry, Settings};

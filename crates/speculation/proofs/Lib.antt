@@ -1,0 +1,4 @@
+pub mod Runs
+pub mod Outputs
+pub mod Records
+pub mod ToyRuns
