@@ -1,0 +1,146 @@
+//! One instruction in place.
+
+ghost use Rattle.std.specs.Prelude.{◌≡◌, ◌≤◌, ◌<◌, length};
+ghost use Rattle.guest_model.specs.ByteMap.{Keeps};
+ghost use Rattle.guest_model.specs.MachineState.{flat};
+ghost use Rattle.guest_model.specs.InstructionTable.{FieldsFit};
+ghost use Rattle.guest_model.specs.Effect.{address, effect, store_effect};
+ghost use Rattle.guest_model.specs.Registers.{reg};
+ghost use Rattle.guest_model.specs.Service.{service};
+ghost use Rattle.guest_model.specs.Step.{step, step_instr, after_effect};
+ghost use Rattle.rv32_step.specs.Moves.{ChangesRegisters};
+ghost use Rattle.rv32_step.specs.Steps.{Steps};
+
+use crate::effects::{address, advance, change_registers, finish, store_bytes};
+use crate::stepped::Stepped;
+use guest_calls::{Served, serve};
+use guest_model::{End, Instr, Memory, State, StoreFault, StoreWidth, Trap};
+use rv32_decode::decode;
+
+/// The registers of a service: its first argument, which takes the answer, the further arguments and the number.
+const A0: u8 = 10;
+
+const A1: u8 = 11;
+
+const A2: u8 = 12;
+
+const A7: u8 = 17;
+
+/// Carries out ECALL.
+#[tactic(auto, unfolding(guest_model::specs::Service::service))]
+fn call_service<M: Memory>(state: &mut State<M>, input: &[u8], fast: bool) -> Stepped
+    requires { state.old.place ≤ length input.now }
+    ensures means { Steps M.REFUSES (service fast input.now (flat M.bytes state.old)) (flat M.bytes state.old) (flat M.bytes state.new) result }
+    ensures place { state.new.place ≤ length input.now }
+    ensures kept { Keeps (M.written state.old.memory) (M.bytes state.old.memory) (M.written state.new.memory) (M.bytes state.new.memory) }
+{
+    let number = state.regs.get(A7);
+    let a0 = state.regs.get(A0);
+    let a1 = state.regs.get(A1);
+    let a2 = state.regs.get(A2);
+    match serve(
+        number,
+        a0,
+        a1,
+        a2,
+        &mut state.memory,
+        &mut state.heap,
+        input,
+        &mut state.place,
+    ) {
+        Served::Answer(value) => {
+            finish(A0, value, &mut state.regs);
+            Stepped::Next
+        }
+        Served::Wrote { stream, at, count } => {
+            finish(A0, count, &mut state.regs);
+            Stepped::Wrote { stream, at, count }
+        }
+        Served::Exit(code) => Stepped::Ends(End::Exit(code)),
+        Served::FastTrack => {
+            finish(A0, fast as u32, &mut state.regs);
+            Stepped::Next
+        }
+        Served::EndDual => {
+            advance(&mut state.regs);
+            Stepped::Next
+        }
+        Served::NoMemory => Stepped::NoMemory,
+    }
+}
+
+#[inline]
+fn store<M: Memory>(width: StoreWidth, at: u32, value: u32, state: &mut State<M>) -> Stepped
+    ensures means { Steps M.REFUSES (after_effect state.old.regs.pc (store_effect width at value (flat M.bytes state.old))) (flat M.bytes state.old) (flat M.bytes state.new) result }
+    ensures place { state.new.place ≡ state.old.place }
+    ensures kept { Keeps (M.written state.old.memory) (M.bytes state.old.memory) (M.written state.new.memory) (M.bytes state.new.memory) }
+{
+    match store_bytes(width, at, value, &mut state.memory) {
+        Ok(()) => {
+            advance(&mut state.regs);
+            Stepped::Next
+        }
+        Err(StoreFault::Unmapped) => Stepped::Ends(End::Trap(Trap::StoreUnmapped, state.regs.pc())),
+        Err(StoreFault::NoMemory) => Stepped::NoMemory,
+    }
+}
+
+#[inline]
+fn on_registers<M: Memory>(instr: Instr, state: &mut State<M>) -> Stepped
+    requires fit { FieldsFit instr }
+    requires registers { ChangesRegisters instr }
+    ensures means { Steps M.REFUSES (after_effect state.old.regs.pc (effect instr (flat M.bytes state.old))) (flat M.bytes state.old) (flat M.bytes state.new) result }
+    ensures rest { state.new ≡ record state.old { regs = state.new.regs } }
+{
+    match change_registers(instr, &mut state.regs, &state.memory) {
+        Ok(()) => Stepped::Next,
+        Err(trap) => Stepped::Ends(End::Trap(trap, state.regs.pc())),
+    }
+}
+
+#[inline]
+fn execute<M: Memory>(instr: Instr, state: &mut State<M>, input: &[u8], fast: bool) -> Stepped
+    requires fit { FieldsFit instr }
+    requires place { state.old.place ≤ length input.now }
+    ensures means { Steps M.REFUSES (step_instr fast input.now (flat M.bytes state.old) instr) (flat M.bytes state.old) (flat M.bytes state.new) result }
+    ensures place { state.new.place ≤ length input.now }
+    ensures kept { Keeps (M.written state.old.memory) (M.bytes state.old.memory) (M.written state.new.memory) (M.bytes state.new.memory) }
+{
+    match instr {
+        Instr::Ecall => call_service(state, input, fast),
+        Instr::Store {
+            width,
+            rs1,
+            rs2,
+            offset,
+        } => {
+            let at = address(&state.regs, rs1, offset);
+            let value = state.regs.get(rs2);
+            store(width, at, value, state)
+        }
+        _ => on_registers(instr, state),
+    }
+}
+
+/// Carries out the instruction at pc (RISC-V Unprivileged ISA, chapters RV32I and M). An ECALL is a service; FastTrack
+/// answers 1 where `fast` is true, else 0.
+///
+/// `input` is the whole input of the guest, of which `state.place` bytes were read. `Ends` never has the end Spent.
+/// NoMemory comes only where the memory may refuse a store. After both the state is as before.
+#[inline]
+#[tactic(auto, unfolding(guest_model::specs::Step::step))]
+pub fn step<M: Memory>(state: &mut State<M>, input: &[u8], fast: bool) -> Stepped
+    requires { state.old.place ≤ length input.now }
+    ensures means { Steps M.REFUSES (step fast input.now (flat M.bytes state.old)) (flat M.bytes state.old) (flat M.bytes state.new) result }
+    ensures place { state.new.place ≤ length input.now }
+    ensures kept { Keeps (M.written state.old.memory) (M.bytes state.old.memory) (M.written state.new.memory) (M.bytes state.new.memory) }
+{
+    let pc = state.regs.pc();
+    let Some(word) = state.memory.load32(pc) else {
+        return Stepped::Ends(End::Trap(Trap::FetchUnmapped, pc));
+    };
+    let Some(instr) = decode(word) else {
+        return Stepped::Ends(End::Trap(Trap::Illegal, pc));
+    };
+    execute(instr, state, input, fast)
+}
