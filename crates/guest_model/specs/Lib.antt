@@ -4,11 +4,14 @@ pub mod ByteMap
 pub mod Difference
 pub mod Effect
 pub mod Flat
+pub mod Image
+pub mod ImageFault
 pub mod InstructionTable
 pub mod MachineState
 pub mod Place
 pub mod Registers
 pub mod Rv32
+pub mod Segment
 pub mod Service
 pub mod Step
 pub mod Word
