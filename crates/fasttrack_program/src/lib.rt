@@ -1,0 +1,4 @@
+//! The program `fasttrack`: its words, its answers, and the order in which it reads, runs and writes.
+#![tactic(auto)]
+
+mod alone;
