@@ -33,6 +33,7 @@ impl CalmFiles {
     ///
     /// # Errors
     /// `NoMemory` where there is no room for the name; all is then as before.
+    #[tactic(auto, using(std::proofs::lemmas::Map::Text::text_keys))]
     pub fn add(&mut self, name: String, bytes: Bytes) -> Result<(), NoMemory>
         ensures put { OnOk result (calm_file_of self.new (string_bytes name) ≡ bytes) }
         ensures others { (other : List ℕ) → other ≢ string_bytes name → calm_file_of self.new other ≡ calm_file_of self.old other }

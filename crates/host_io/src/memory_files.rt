@@ -36,6 +36,7 @@ impl MemoryFiles {
     ///
     /// # Errors
     /// `NoMemory` where there is no room for the name; all is then as before.
+    #[tactic(auto, using(std::proofs::lemmas::Map::Text::text_keys))]
     pub fn add(&mut self, name: String, bytes: Bytes) -> Result<(), NoMemory>
         ensures put { OnOk result (file_of self.new (string_bytes name) ≡ Some bytes) }
         ensures others { (other : List ℕ) → other ≢ string_bytes name → file_of self.new other ≡ file_of self.old other }

@@ -24,13 +24,14 @@ pub enum Took {
 const PIECE_LEN: usize = 262_144;
 
 /// How many bytes the next read may bring, so that at most one byte more than the limit is read.
-fn room_for(taken: usize, limit: u64) -> usize
-    requires { taken ≤ limit }
+fn room_for(taken: usize, limit: u64, piece_len: usize) -> usize
+    requires taken { taken ≤ limit }
+    requires piece { 0 < piece_len }
     ensures some { 0 < result }
-    ensures piece { result ≤ PIECE_LEN }
+    ensures fits { result ≤ piece_len }
     ensures within { taken + result ≤ limit + 1 }
 {
-    let beyond = (limit - taken as u64).min(PIECE_LEN as u64 - 1);
+    let beyond = (limit - taken as u64).min(piece_len as u64 - 1);
     beyond as usize + 1
 }
 
@@ -43,12 +44,29 @@ pub fn take_file<F: Files>(alloc: Global, files: &mut F, name: &str, limit: u64)
     ensures counted { CountsFailed (F.faults files.old) (F.faults files.new) result }
     ensures grows { F.faults files.old ≤ F.faults files.new }
 {
-    let mut bytes = Bytes::new(alloc);
     let Ok(mut piece) = vec![in alloc; 0u8; PIECE_LEN] else {
         return Took::NoMemory;
     };
+    take_file_by(alloc, files, name, limit, &mut piece)
+}
+
+/// `take_file` by pieces of the length of `piece`.
+fn take_file_by<F: Files>(
+    alloc: Global,
+    files: &mut F,
+    name: &str,
+    limit: u64,
+    piece: &mut [u8],
+) -> Took
+    requires { 0 < length piece.old }
+    ensures takes { Takes (F.contents files.old name.now) limit result }
+    ensures held { F.contents files.new ≡ F.contents files.old }
+    ensures counted { CountsFailed (F.faults files.old) (F.faults files.new) result }
+    ensures grows { F.faults files.old ≤ F.faults files.new }
+{
+    let mut bytes = Bytes::new(alloc);
     while bytes.len() as u64 <= limit {
-        let room = room_for(bytes.len(), limit);
+        let room = room_for(bytes.len(), limit, piece.len());
         match files.read(name, bytes.len() as u64, &mut piece[..room]) {
             Err(Failed) => return Took::Failed,
             Ok(0) => return Took::Whole(bytes),
@@ -71,12 +89,23 @@ pub fn take_source<S: Source>(alloc: Global, source: &mut S, limit: u64) -> Took
     ensures counted { CountsFailed (S.faults source.old) (S.faults source.new) result }
     ensures grows { S.faults source.old ≤ S.faults source.new }
 {
-    let mut bytes = Bytes::new(alloc);
     let Ok(mut piece) = vec![in alloc; 0u8; PIECE_LEN] else {
         return Took::NoMemory;
     };
+    take_source_by(alloc, source, limit, &mut piece)
+}
+
+/// `take_source` by pieces of the length of `piece`.
+fn take_source_by<S: Source>(alloc: Global, source: &mut S, limit: u64, piece: &mut [u8]) -> Took
+    requires { 0 < length piece.old }
+    ensures takes { Takes (S.remaining source.old) limit result }
+    ensures left { TakesFrom (S.remaining source.old) (S.remaining source.new) limit result }
+    ensures counted { CountsFailed (S.faults source.old) (S.faults source.new) result }
+    ensures grows { S.faults source.old ≤ S.faults source.new }
+{
+    let mut bytes = Bytes::new(alloc);
     while bytes.len() as u64 <= limit {
-        let room = room_for(bytes.len(), limit);
+        let room = room_for(bytes.len(), limit, piece.len());
         match source.read(&mut piece[..room]) {
             Err(Failed) => return Took::Failed,
             Ok(0) => return Took::Whole(bytes),
