@@ -6,69 +6,76 @@ use Rattle.speculation.specs.Record.{Ran, output_of}
 use Rattle.host_io.specs.Faults.{Rose}
 use Rattle.guest_model.specs.declared.end.End.{End}
 use Rattle.guest_model.specs.declared.end.End.TheVariants.{Spent}
-use Rattle.fasttrack_program.specs.declared.alone.GuestRun.{GuestRun}
-use Rattle.fasttrack_program.specs.declared.alone.GuestRun.TheVariants.{Ended, WriteFault, NoMemory}
+use Rattle.fasttrack_program.specs.declared.alone.OutputFault.{OutputFault}
+use Rattle.fasttrack_program.specs.declared.alone.OutputFault.TheVariants.{Write, NoMemory}
 
 -- the end of a run; none is that the budget was spent
 abbrev pub end_of : Option End → End
 end_of None = Spent
 end_of (Some e) = e
 
--- a sink as contracts see it: the bytes that it holds, where it tells them, and its count of faults
-pub record Seen : Type 0 where
-  pub told : Option (List ℕ)
-  pub faults : ℕ
+-- The two sinks as contracts see them: the bytes that each holds, where it tells them, and its count of faults.
+pub record Sinks : Type 0 where
+  pub out : Option (List ℕ)
+  pub out_faults : ℕ
+  pub notes : Option (List ℕ)
+  pub notes_faults : ℕ
 
 -- both sinks got the two streams of these marked bytes, each where it tells
-pub record Gets (out notes out' notes' : Seen) (ms : List Mark) : Type 0 where
-  pub out : Appends out.told out'.told (stream_bytes 1 ms)
-  pub notes : Appends notes.told notes'.told (stream_bytes 2 ms)
+pub record Gets (old new : Sinks) (ms : List Mark) : Type 0 where
+  pub stream_1 : Appends old.out new.out (stream_bytes 1 ms)
+  pub stream_2 : Appends old.notes new.notes (stream_bytes 2 ms)
+
+-- both counts are as before
+pub record IsCalm (old new : Sinks) : Type 0 where
+  pub on_out : new.out_faults ≡ old.out_faults
+  pub on_notes : new.notes_faults ≡ old.notes_faults
 
 -- the next marked byte is of this stream
 abbrev pub IsNext : ℕ → List Mark → Type 0
 IsNext stream [] = ⊥
 IsNext stream (m ∷ ms) = m.stream ≡ stream
 
--- one of the two counts rose, at a byte of its stream
-abbrev pub FailsAt : Seen → Seen → Seen → Seen → List Mark → Type 0
-FailsAt out notes out' notes' rest =
-    (Rose out.faults out'.faults × (notes'.faults ≡ notes.faults) × IsNext 1 rest)
-    ⊎ (Rose notes.faults notes'.faults × (out'.faults ≡ out.faults) × IsNext 2 rest)
+-- one of the two counts rose, and the byte that could not be written is of its stream
+abbrev pub FailsAt : Sinks → Sinks → List Mark → Type 0
+FailsAt old new rest =
+    (Rose old.out_faults new.out_faults × (new.notes_faults ≡ old.notes_faults) × IsNext 1 rest)
+    ⊎ (Rose old.notes_faults new.notes_faults × (new.out_faults ≡ old.out_faults) × IsNext 2 rest)
 
--- the sinks got a part of this output from its beginning on, and the next byte could not be written
-pub record StopsShort (out notes out' notes' : Seen) (output : List Mark) : Type 0 where
+-- they got this output from its beginning on up to a byte that could not be written
+pub record StopsShort (old new : Sinks) (output : List Mark) : Type 0 where
   pub got : List Mark
   pub rest : List Mark
   pub parts : got ++ rest ≡ output
-  pub gets : Gets out notes out' notes' got
-  pub fails : FailsAt out notes out' notes' rest
+  pub gets : Gets old new got
+  pub fails : FailsAt old new rest
 
--- both counts are as before
-pub record IsCalm (out notes out' notes' : Seen) : Type 0 where
-  pub out : out'.faults ≡ out.faults
-  pub notes : notes'.faults ≡ notes.faults
-
--- they got a part of this output, and no count rose
-pub record GetsPart (out notes out' notes' : Seen) (output : List Mark) : Type 0 where
+-- they got this output from its beginning on up to some byte, and no count rose
+pub record GetsPart (old new : Sinks) (output : List Mark) : Type 0 where
   pub got : List Mark
   pub rest : List Mark
   pub parts : got ++ rest ≡ output
-  pub gets : Gets out notes out' notes' got
-  pub calm : IsCalm out notes out' notes'
+  pub gets : Gets old new got
+  pub calm : IsCalm old new
 
--- they got all of it, no count rose, and the end is the run's own
-pub record GetsAll {S : Type 0} (out notes out' notes' : Seen) (run : Ran S End) (e : End) : Type 0 where
-  pub gets : Gets out notes out' notes' (output_of run)
-  pub end : e ≡ end_of run.end
-  pub calm : IsCalm out notes out' notes'
+-- they got all of it, and no count rose
+pub record GetsAll (old new : Sinks) (output : List Mark) : Type 0 where
+  pub gets : Gets old new output
+  pub calm : IsCalm old new
 
 -- what the writing of one piece of output answers and leaves
-abbrev pub WritesPiece : {T E : Type 0} → Seen → Seen → Seen → Seen → List Mark → Result T E → Type 0
-WritesPiece out notes out' notes' piece (Ok _) = Gets out notes out' notes' piece × IsCalm out notes out' notes'
-WritesPiece out notes out' notes' piece (Err _) = StopsShort out notes out' notes' piece
+abbrev pub WritesPiece : {T E : Type 0} → Sinks → Sinks → List Mark → Result T E → Type 0
+WritesPiece old new piece (Ok _) = GetsAll old new piece
+WritesPiece old new piece (Err _) = StopsShort old new piece
 
--- what a guest's run answers and leaves
-abbrev pub Leaves : {S : Type 0} → Ran S End → Seen → Seen → Seen → Seen → GuestRun → Type 0
-Leaves run out notes out' notes' (Ended e) = GetsAll out notes out' notes' run e
-Leaves run out notes out' notes' WriteFault = StopsShort out notes out' notes' (output_of run)
-Leaves run out notes out' notes' NoMemory = GetsPart out notes out' notes' (output_of run)
+-- the same with a piece for which there may be no memory
+abbrev pub PassesOn : {T : Type 0} → Sinks → Sinks → List Mark → Result T OutputFault → Type 0
+PassesOn old new piece (Ok _) = GetsAll old new piece
+PassesOn old new piece (Err Write) = StopsShort old new piece
+PassesOn old new piece (Err NoMemory) = new ≡ old
+
+-- What a guest's run answers and leaves: all of its output and its own end, or a part of its output.
+abbrev pub Leaves : {S : Type 0} → Ran S End → Sinks → Sinks → Result End OutputFault → Type 0
+Leaves run old new (Ok e) = GetsAll old new (output_of run) × (e ≡ end_of run.end)
+Leaves run old new (Err Write) = StopsShort old new (output_of run)
+Leaves run old new (Err NoMemory) = GetsPart old new (output_of run)

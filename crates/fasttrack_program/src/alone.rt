@@ -7,26 +7,27 @@ ghost use Rattle.guest_model.specs.Flat.{flat_bytes};
 ghost use Rattle.guest_model.specs.Rv32.{rv32};
 ghost use Rattle.speculation.specs.Record.{alone};
 ghost use Rattle.speculation.specs.Run.{marked};
-ghost use Rattle.fasttrack_program.specs.GuestStreams.{Leaves, WritesPiece};
+ghost use Rattle.fasttrack_program.specs.GuestStreams.{Leaves, WritesPiece, PassesOn};
 
-use guest_model::{End, FlatMemory, Memory, NoMemory as OutOfMemory, State};
+use guest_model::{End, FlatMemory, Memory, NoMemory, State};
 use host_io::{Failed, Sink, write_whole};
 use rv32_step::{Stepped, step};
 use std::alloc::Global;
 
-/// How the run of a guest came to its end.
+/// Why a guest's output could not be written.
 #[derive(Debug, Clone, Copy, PartialEq, Eq)]
-pub enum GuestRun {
-    /// The guest ended so, or its budget was spent.
-    Ended(End),
-    /// A byte of the guest's output could not be written.
-    WriteFault,
+pub enum OutputFault {
+    /// The sink failed.
+    Write,
     /// There was no memory for a piece of the output.
     NoMemory,
 }
 
-/// Runs a guest from `state` for at most `budget` instructions. Each piece that it writes goes at once to `out`, for
-/// stream 1, or to `notes`, for stream 2.
+/// Runs a guest from `state` for at most `budget` instructions, and answers its end. Each piece that it writes goes at
+/// once to `out`, for stream 1, or to `notes`, for stream 2.
+///
+/// # Errors
+/// `Write` where a sink failed, and `NoMemory` where there was no memory for a piece. Either ends the run.
 pub fn run_alone<O: Sink, N: Sink>(
     alloc: Global,
     state: &mut State<FlatMemory>,
@@ -34,36 +35,61 @@ pub fn run_alone<O: Sink, N: Sink>(
     budget: u64,
     out: &mut O,
     notes: &mut N,
-) -> GuestRun
+) -> Result<End, OutputFault>
     requires { state.old.place ≤ length input.now }
     ensures { Leaves (alone (rv32 input.now) (flat flat_bytes state.old) budget)
-        (record { told = O.contents out.old; faults = O.faults out.old })
-        (record { told = N.contents notes.old; faults = N.faults notes.old })
-        (record { told = O.contents out.new; faults = O.faults out.new })
-        (record { told = N.contents notes.new; faults = N.faults notes.new })
+        (record { out = O.contents out.old; out_faults = O.faults out.old; notes = N.contents notes.old; notes_faults = N.faults notes.old })
+        (record { out = O.contents out.new; out_faults = O.faults out.new; notes = N.contents notes.new; notes_faults = N.faults notes.new })
         result }
 {
     let mut buffer = Vec::new(alloc);
-    for _ in 0..budget {
+    for _done in 0..budget {
         match step(state, input, false) {
             Stepped::Next => {}
             Stepped::Wrote { stream, at, count } => {
-                if load_piece(&mut buffer, &state.memory, at, count).is_err() {
-                    return GuestRun::NoMemory;
-                }
-                if write_piece(stream, buffer.as_slice(), out, notes).is_err() {
-                    return GuestRun::WriteFault;
-                }
+                pass_on(&state.memory, stream, at, count, &mut buffer, out, notes)?
             }
-            Stepped::Ends(end) => return GuestRun::Ended(end),
+            Stepped::Ends(end) => return Ok(end),
             Stepped::NoMemory => unreachable!(),
         }
     }
-    GuestRun::Ended(End::Spent)
+    Ok(End::Spent)
+}
+
+/// Writes the `count` bytes of `memory` from `at` on to the sink of their stream. `buffer` is room for them.
+#[cold]
+fn pass_on<O: Sink, N: Sink>(
+    memory: &FlatMemory,
+    stream: u8,
+    at: u32,
+    count: u32,
+    buffer: &mut Vec<u8>,
+    out: &mut O,
+    notes: &mut N,
+) -> Result<(), OutputFault>
+    requires mapped { IsTrue (mapped (flat_bytes memory.now) at count) }
+    requires stream { (stream ≡ 1) ⊎ (stream ≡ 2) }
+    ensures { PassesOn
+        (record { out = O.contents out.old; out_faults = O.faults out.old; notes = N.contents notes.old; notes_faults = N.faults notes.old })
+        (record { out = O.contents out.new; out_faults = O.faults out.new; notes = N.contents notes.new; notes_faults = N.faults notes.new })
+        (marked stream (bytes_from (flat_bytes memory.now) at count)) result }
+{
+    match load_piece(memory, at, count, buffer) {
+        Err(NoMemory) => Err(OutputFault::NoMemory),
+        Ok(()) => match write_piece(stream, buffer.as_slice(), out, notes) {
+            Err(Failed) => Err(OutputFault::Write),
+            Ok(()) => Ok(()),
+        },
+    }
 }
 
 /// Makes `buffer` the `count` bytes of `memory` from `at` on.
-fn load_piece(buffer: &mut Vec<u8>, memory: &FlatMemory, at: u32, count: u32) -> Result<(), OutOfMemory>
+fn load_piece(
+    memory: &FlatMemory,
+    at: u32,
+    count: u32,
+    buffer: &mut Vec<u8>,
+) -> Result<(), NoMemory>
     requires { IsTrue (mapped (flat_bytes memory.now) at count) }
     ensures { OnOk result (buffer.new.items ≡ bytes_from (flat_bytes memory.now) at count) }
 {
@@ -73,13 +99,16 @@ fn load_piece(buffer: &mut Vec<u8>, memory: &FlatMemory, at: u32, count: u32) ->
 }
 
 /// Writes a piece of the guest's output to the sink of its stream.
-fn write_piece<O: Sink, N: Sink>(stream: u8, piece: &[u8], out: &mut O, notes: &mut N) -> Result<(), Failed>
+fn write_piece<O: Sink, N: Sink>(
+    stream: u8,
+    piece: &[u8],
+    out: &mut O,
+    notes: &mut N,
+) -> Result<(), Failed>
     requires { (stream ≡ 1) ⊎ (stream ≡ 2) }
     ensures { WritesPiece
-        (record { told = O.contents out.old; faults = O.faults out.old })
-        (record { told = N.contents notes.old; faults = N.faults notes.old })
-        (record { told = O.contents out.new; faults = O.faults out.new })
-        (record { told = N.contents notes.new; faults = N.faults notes.new })
+        (record { out = O.contents out.old; out_faults = O.faults out.old; notes = N.contents notes.old; notes_faults = N.faults notes.old })
+        (record { out = O.contents out.new; out_faults = O.faults out.new; notes = N.contents notes.new; notes_faults = N.faults notes.new })
         (marked stream piece.now) result }
 {
     if stream == 1 {
