@@ -2,3 +2,6 @@
 #![tactic(auto)]
 
 mod alone;
+mod answer;
+mod answer_line;
+mod top;

@@ -1,0 +1,53 @@
+-- What a call of the program is to do, from its words, its image file and its input
+use Rattle.std.specs.Prelude.{◌≡◌, ℕ, Bool, nat_lt, if◌then◌else◌, List, [], length, Option, Some, None, Result, Ok, Err}
+use Rattle.guest_model.specs.Image.{Image, image}
+use Rattle.guest_model.specs.ImageFault.{Fault}
+
+-- what the words ask for: the program alone, its image file, the budget of instructions, and whether the input is left
+-- unread
+pub record Request : Type 0 where
+  pub image : List ℕ
+  pub budget : ℕ
+  pub no_input : Bool
+
+-- why a call is refused before the guest runs
+pub data Refusal : Type 0 where
+  BadWords : Refusal
+  LongImage : Refusal
+  BadFile : Fault → Refusal
+  LongInput : Refusal
+
+-- the call is refused, or the guest of this image runs with this input and budget
+pub data Plan : Type 0 where
+  Refused : Refusal → Plan
+  Runs : Image → List ℕ → ℕ → Plan
+
+-- the most bytes of an image file and of an input
+abbrev pub image_limit : ℕ
+image_limit = 33554432
+
+abbrev pub input_limit : ℕ
+input_limit = 16777216
+
+-- the image of a file, whose length is looked at first
+abbrev pub refused_file : Result Image Fault → Result Image Refusal
+refused_file (Ok i) = Ok i
+refused_file (Err f) = Err (BadFile f)
+
+abbrev pub image_in : List ℕ → Result Image Refusal
+image_in file = if nat_lt image_limit (length file) then Err LongImage else refused_file (image file)
+
+-- the input that the guest gets: none where it is left unread
+abbrev pub with_input : Image → Request → List ℕ → Plan
+with_input i r input =
+    if r.no_input then Runs i [] r.budget else (
+    if nat_lt input_limit (length input) then Refused LongInput else Runs i input r.budget)
+
+abbrev pub with_image : Request → List ℕ → Result Image Refusal → Plan
+with_image r input (Err f) = Refused f
+with_image r input (Ok i) = with_input i r input
+
+-- words, image length, image, input length: the first that refuses decides
+abbrev pub plan : Option Request → List ℕ → List ℕ → Plan
+plan None file input = Refused BadWords
+plan (Some r) file input = with_image r input (image_in file)

@@ -1,0 +1,50 @@
+-- What a call of the program answers, and what it leaves on `out` and `notes`
+use Rattle.std.specs.Prelude.{◌≡◌, ℕ, ◌<◌, List, length, take, Option, Some, None, ◌⊎◌}
+use Rattle.std.specs.Io.KnownBytes.{Appends}
+use Rattle.speculation.specs.Record.{output_of}
+use Rattle.host_io.specs.Faults.{Rose}
+use Rattle.guest_model.specs.Image.{program_alone}
+use Rattle.guest_model.specs.declared.end.End.{End}
+use Rattle.guest_model.specs.declared.end.End.TheVariants as E
+use Rattle.elf32_loader.specs.FaultOf.{fault_of}
+use Rattle.elf32_loader.specs.declared.fault.ImageFault.{ImageFault}
+use Rattle.fasttrack_program.specs.GuestStreams.{Sinks, GetsAll, GetsPart, StopsShort, end_of}
+use Rattle.fasttrack_program.specs.Plan.{Plan, Refused, Runs, BadWords, LongImage, BadFile, LongInput}
+use Rattle.fasttrack_program.specs.declared.answer.Answer.{Answer}
+use Rattle.fasttrack_program.specs.declared.answer.Answer.TheVariants.{Exited, Trapped, Spent, Usage, ReadFault, ImageTooLong, BadImage, InputTooLong, WriteFault, NoMemory}
+
+-- ---- the guest's part
+
+-- The transparency theorem for the program alone: the sinks got both streams of its whole output, and the end is its own.
+abbrev pub RunsTo : Plan → Sinks → Sinks → End → Type 0
+RunsTo (Refused r) old new e = ⊥
+RunsTo (Runs i input budget) old new e =
+    GetsAll old new (output_of (program_alone i input budget)) × (e ≡ end_of (program_alone i input budget).end)
+
+-- the sinks got the output of the program alone up to a byte that could not be written
+abbrev pub FailsIn : Plan → Sinks → Sinks → Type 0
+FailsIn (Refused r) old new = ⊥
+FailsIn (Runs i input budget) old new = StopsShort old new (output_of (program_alone i input budget))
+
+-- the sinks got the output of the program alone up to some byte, and no count rose
+abbrev pub StaysWithin : Plan → Sinks → Sinks → Type 0
+StaysWithin (Refused r) old new = new ≡ old
+StaysWithin (Runs i input budget) old new = GetsPart old new (output_of (program_alone i input budget))
+
+-- the file has this fault
+abbrev pub HasFault : Plan → ImageFault → Type 0
+HasFault (Refused (BadFile k)) f = fault_of f ≡ Some k
+HasFault _ f = ⊥
+
+-- Each answer with its cause, and what the sinks got before the answer's line.
+abbrev pub Serves : Plan → Sinks → Sinks → Answer → Type 0
+Serves p old new (Exited code) = RunsTo p old new (E.Exit code)
+Serves p old new (Trapped trap pc) = RunsTo p old new (E.Trap trap pc)
+Serves p old new Spent = RunsTo p old new E.Spent
+Serves p old new Usage = (p ≡ Refused BadWords) × (new ≡ old)
+Serves p old new ReadFault = new ≡ old
+Serves p old new ImageTooLong = (p ≡ Refused LongImage) × (new ≡ old)
+Serves p old new (BadImage f) = HasFault p f × (new ≡ old)
+Serves p old new InputTooLong = (p ≡ Refused LongInput) × (new ≡ old)
+Serves p old new WriteFault = FailsIn p old new
+Serves p old new NoMemory = StaysWithin p old new
