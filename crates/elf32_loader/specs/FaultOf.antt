@@ -1,5 +1,5 @@
 -- The fault of the image that an answer names
-use Rattle.std.specs.Prelude.{◌≡◌, Option, Some, None, Result, Ok, Err}
+use Rattle.std.specs.Prelude.{◌≡◌, Option, Some, None, Result, Ok, Err, IsSome}
 use Rattle.guest_model.specs.ImageFault as image
 use Rattle.guest_model.specs.ImageFault.{Fault}
 use Rattle.elf32_loader.specs.declared.fault.ImageFault.{ImageFault}
@@ -26,4 +26,4 @@ fault_of NoMemory = None
 -- a check fails exactly where there is this fault, and names it
 abbrev pub Checks : {A : Type 0} → Option Fault → Result A ImageFault → Type 0
 Checks want (Ok _) = want ≡ None
-Checks want (Err e) = want ≡ fault_of e
+Checks want (Err e) = IsSome (fault_of e) × (want ≡ fault_of e)

@@ -3,6 +3,7 @@
 ghost use Rattle.std.specs.Prelude.{◌≡◌};
 ghost use Rattle.guest_model.specs.ImageFault.{ranges_meet};
 
+use crate::page_range::PageRange;
 use std::marker::Model;
 
 const PT_LOAD: u32 = 1;
@@ -12,12 +13,12 @@ const PT_DYNAMIC: u32 = 2;
 const PT_INTERP: u32 = 3;
 
 /// How many bytes a page has.
-const PAGE: u64 = 4096;
+pub const PAGE: u64 = 4096;
 
 /// The first address of the stack, and the first one behind it.
-const STACK_BASE: u64 = 0x7FF0_0000;
+pub const STACK_BASE: u64 = 0x7FF0_0000;
 
-const STACK_END: u64 = 0x8000_0000;
+pub const STACK_END: u64 = 0x8000_0000;
 
 /// The part of a program header that the loader reads.
 #[derive(Clone, Copy)]
@@ -47,9 +48,19 @@ fn ranges_meet(first: u64, end: u64, other_first: u64, other_end: u64) -> bool
 }
 
 impl Segment {
-    ghost use Rattle.std.specs.Prelude.{◌≡◌, ◌+◌, ◌^◌, ◌<◌, ◌≤◌, IsTrue};
+    ghost use Rattle.std.specs.Prelude.{◌≡◌, ℕ, ◌+◌, ◌^◌, ◌<◌, ◌≤◌, IsTrue};
     ghost use Rattle.guest_model.specs.Segment.{is_load, is_dynamic, has_bytes, end_of, first_page, last_page, page_count, has_page};
     ghost use Rattle.guest_model.specs.ImageFault.{is_bad, overlap, overlaps_stack};
+    ghost use Rattle.elf32_loader.specs.PageRanges.{in_range, IsPageRange};
+
+    /// A header of a type that is passed over.
+    pub const EMPTY: Segment = Segment {
+        kind: 0,
+        offset: 0,
+        address: 0,
+        file_size: 0,
+        memory_size: 0,
+    };
 
     /// It is loaded.
     pub fn is_load(&self) -> bool
@@ -94,6 +105,19 @@ impl Segment {
         ensures bound { result ≤ 2 ^ 21 }
     {
         (self.end() - 1) / PAGE + 1
+    }
+
+    /// The pages that it touches, where it has bytes and they end at 2^32 at the latest.
+    pub fn pages(&self) -> PageRange
+        requires some { IsTrue (has_bytes self.now) }
+        requires end { end_of self.now ≤ 2 ^ 32 }
+        ensures pages { (p : ℕ) → in_range p result ≡ has_page p self.now }
+        ensures range { IsPageRange result }
+    {
+        PageRange {
+            first: self.first_page() as u32,
+            end: self.end_page() as u32,
+        }
     }
 
     /// How many pages it touches.
