@@ -1,0 +1,5 @@
+pub mod OnFileBytes
+pub mod OnPlacesInTable
+pub mod OnSegments
+pub mod OnPageRanges
+pub mod OnInitialMemory

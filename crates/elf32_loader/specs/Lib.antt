@@ -1,0 +1,4 @@
+pub mod FaultOf
+pub mod HeaderTable
+pub mod LoadedImage
+pub mod PageRanges

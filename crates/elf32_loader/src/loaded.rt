@@ -1,0 +1,26 @@
+//! An image that was loaded.
+
+ghost use Rattle.std.specs.Prelude.{◌≡◌, ◌-◌, ◌%◌, true};
+ghost use Rattle.guest_model.specs.AreaMap.{areas_bytes, IsLayout};
+ghost use Rattle.guest_model.specs.ByteMap.{mapped};
+ghost use Rattle.guest_model.specs.ImageFault.{stack_base, stack_end};
+
+use guest_model::{Areas, Heap};
+
+/// What a program starts with.
+#[derive(Debug, Drop)]
+pub struct Loaded {
+    /// The address of the first instruction.
+    pub entry: u32,
+    /// The initial memory: whole pages, in rising order and without a common address, the stack and the heap among them.
+    pub areas: Areas,
+    /// The heap, which is empty at 0 where there is no room for one.
+    pub heap: Heap,
+    pub ghost layout: { IsLayout areas },
+    pub ghost stack_is_mapped: { mapped (areas_bytes areas) stack_base (stack_end - stack_base) ≡ true },
+    pub ghost heap_is_mapped: { mapped (areas_bytes areas) heap.start heap.size ≡ true },
+    pub ghost heap_is_aligned: { heap.start % 4096 ≡ 0 },
+    pub ghost break_at_start: { heap.brk ≡ heap.start },
+    pub ghost entry_is_aligned: { entry % 4 ≡ 0 },
+    pub ghost entry_is_mapped: { mapped (areas_bytes areas) entry 4 ≡ true },
+}
