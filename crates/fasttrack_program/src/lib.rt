@@ -4,4 +4,5 @@
 mod alone;
 mod answer;
 mod answer_line;
-mod top;
+mod fault_text;
+
