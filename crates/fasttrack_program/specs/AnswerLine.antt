@@ -21,3 +21,10 @@ line_of (BadImage fault) = Some (as_line (codes "bad image: " ++ fault_text faul
 line_of InputTooLong = Some (as_line (codes "input too long"))
 line_of WriteFault = Some (as_line (codes "write failed"))
 line_of NoMemory = Some (as_line (codes "no memory"))
+
+-- the answers that have no line, or a line with numbers
+abbrev pub IsExitOrNumbered : Answer → Type 0
+IsExitOrNumbered (Exited code) = Unit {0}
+IsExitOrNumbered (Trapped trap pc) = Unit {0}
+IsExitOrNumbered (BadImage fault) = Unit {0}
+IsExitOrNumbered _ = ⊥

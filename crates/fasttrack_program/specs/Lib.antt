@@ -1,1 +1,4 @@
+pub mod AnswerLine
+pub mod FaultTexts
 pub mod GuestStreams
+pub mod Status

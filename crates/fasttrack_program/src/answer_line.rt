@@ -1,7 +1,7 @@
 //! The line on notes that tells an answer.
 
-ghost use Rattle.std.specs.Prelude.{◌≡◌, IfOk, Some, None, string_bytes, option_map};
-ghost use Rattle.fasttrack_program.specs.AnswerLine.{line_of};
+ghost use Rattle.std.specs.Prelude.{◌≡◌, IfOk, IfSome, IfNone, string_bytes};
+ghost use Rattle.fasttrack_program.specs.AnswerLine.{line_of, IsExitOrNumbered};
 
 use crate::answer::Answer;
 use crate::fault_text::FaultText;
@@ -12,8 +12,8 @@ use std::alloc::Global;
 
 /// The line of an answer that has no number in it, None of an exit and of those that do.
 pub fn fixed_line(answer: Answer) -> Option<&'static str>
-    ensures { IfSome result (λ text. Some text.now ≡ line_of answer) }
-    ensures { IfNone result (HasNumbers answer) }
+    ensures some { IfSome result (λ text. line_of answer ≡ Some text.now) }
+    ensures none { IfNone result (IsExitOrNumbered answer) }
 {
     match answer {
         Answer::Exited(_) | Answer::Trapped(..) | Answer::BadImage(_) => None,
@@ -32,7 +32,7 @@ pub fn fixed_line(answer: Answer) -> Option<&'static str>
 /// # Errors
 /// `NoMemory` where there is no room for it.
 pub fn trap_line(alloc: Global, trap: Trap, pc: u32) -> Result<String, NoMemory>
-    ensures { IfOk result (λ text. Some (string_bytes text) ≡ line_of (Answer.Trapped trap pc)) }
+    ensures { IfOk result (λ text. line_of (Answer.Trapped trap pc) ≡ Some (string_bytes text)) }
 {
     let name = trap_name(trap);
     let address = Address(pc);
@@ -44,7 +44,7 @@ pub fn trap_line(alloc: Global, trap: Trap, pc: u32) -> Result<String, NoMemory>
 /// # Errors
 /// `NoMemory` where there is no room for it.
 pub fn fault_line(alloc: Global, fault: ImageFault) -> Result<String, NoMemory>
-    ensures { IfOk result (λ text. Some (string_bytes text) ≡ line_of (Answer.BadImage fault)) }
+    ensures { IfOk result (λ text. line_of (Answer.BadImage fault) ≡ Some (string_bytes text)) }
 {
     let fault = FaultText(fault);
     Ok(format!(in alloc; "fasttrack: bad image: {fault}\n")?)
