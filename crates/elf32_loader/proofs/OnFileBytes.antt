@@ -1,24 +1,24 @@
 -- The bytes that a copy from the file leaves
-use Rattle.std.proofs.Common.{◌≡◌, ℕ, ◌+◌, ◌-◌, ◌*◌, ◌<◌, ◌≤◌, Bool, true, false, cond, ◌&&◌, List, ◌++◌, length, get_or, take, drop, min, max, ◌⊎◌, ⊎_elim, inl, inr, refl, sym, ap, ◌∙◌, subst, arith, length-take, length-drop}
+use Rattle.std.proofs.Common.{◌≡◌, ℕ, ◌+◌, ◌-◌, ◌<◌, ◌≤◌, true, cond, ◌&&◌, List, ◌++◌, length, take, drop, min, max, ◌⊎◌, ⊎_elim, inl, inr, sym, ap, ◌∙◌, subst, arith, length-take, length-drop}
 use Rattle.std.specs.Prelude.{nat_le, nat_lt, slice_index}
 use Rattle.std.proofs.lemmas.Bool.{cases_lt, and_from, and_right, and_left, le-leb, lt-ltb, lt-leb, le-ltb}
 use Rattle.std.proofs.lemmas.List.{get_or-take, get_or-drop}
-use Rattle.guest_model.specs.Segment.{Segment, is_load, has_file_byte}
+use Rattle.guest_model.specs.Segment.{Segment, is_load}
 use Rattle.guest_model.proofs.OnPlaces.{patched-inside, patched-before, patched-after}
 use Rattle.elf32_loader.specs.PageRanges.{byte_above}
 
 byte_above-inside : (file : List ℕ) (s : Segment) (q below : ℕ) → is_load s ≡ true → s.address ≤ q → q < s.address + s.file_size → byte_above file s q below ≡ slice_index file (s.offset + (q - s.address))
 byte_above-inside file s q below e l u =
     ap (λ b. cond b (slice_index file (s.offset + (q - s.address))) below)
-      (and_from (is_load s) (nat_le s.address q && nat_lt q (s.address + s.file_size)) e (and_from (nat_le s.address q) (nat_lt q (s.address + s.file_size)) (le-leb s.address q l) (lt-ltb q (s.address + s.file_size) u)))
+    (and_from (is_load s) (nat_le s.address q && nat_lt q (s.address + s.file_size)) e (and_from (nat_le s.address q) (nat_lt q (s.address + s.file_size)) (le-leb s.address q l) (lt-ltb q (s.address + s.file_size) u)))
 
 byte_above-outside : (file : List ℕ) (s : Segment) (q below : ℕ) → (q < s.address) ⊎ (s.address + s.file_size ≤ q) → byte_above file s q below ≡ below
 byte_above-outside file s q below o =
     ap (λ b. cond b (slice_index file (s.offset + (q - s.address))) below)
-      (and_right (is_load s) (nat_le s.address q && nat_lt q (s.address + s.file_size)) (⊎_elim
-        (λ (l : q < s.address). and_left (nat_le s.address q) (nat_lt q (s.address + s.file_size)) (lt-leb s.address q l))
-        (λ (u : s.address + s.file_size ≤ q). and_right (nat_le s.address q) (nat_lt q (s.address + s.file_size)) (le-ltb q (s.address + s.file_size) u))
-        o))
+    (and_right (is_load s) (nat_le s.address q && nat_lt q (s.address + s.file_size)) (⊎_elim
+    (λ (l : q < s.address). and_left (nat_le s.address q) (nat_lt q (s.address + s.file_size)) (lt-leb s.address q l))
+    (λ (u : s.address + s.file_size ≤ q). and_right (nat_le s.address q) (nat_lt q (s.address + s.file_size)) (le-ltb q (s.address + s.file_size) u))
+    o))
 
 -- the bytes of the file that a slice from here to `from + len` has
 abbrev pub slice_of : List ℕ → ℕ → ℕ → List ℕ
@@ -55,14 +55,14 @@ copied-byte file memory s base at from len h k l =
     let size : length (slice_of file from len) ≡ len = length-slice_of file from len h.fits in
     let fits : at + length (slice_of file from len) ≤ length memory = omega (arith, h.last) in
     ⊎_elim
-      (λ (b : k < at). patched-before memory at (slice_of file from len) k fits b ∙ sym (byte_above-outside file s (base + k) (slice_index memory k) (inl (omega (arith, h.first)))))
-      (λ (b : at ≤ k). ⊎_elim
-        (λ (u : k < at + len).
-          let split : at + (k - at) ≡ k = omega arith in
-          subst (λ i. slice_index (copied file memory at from len) i ≡ byte_above file s (base + i) (slice_index memory i)) split
-            (copied-inside file memory s base at from len h (k - at) (omega arith)))
-        (λ (u : at + len ≤ k).
-          patched-after memory at (slice_of file from len) k fits (omega arith)
-          ∙ sym (byte_above-outside file s (base + k) (slice_index memory k) (inr (omega (arith, h.last)))))
-        (cases_lt k (at + len)))
-      (cases_lt k at)
+    (λ (b : k < at). patched-before memory at (slice_of file from len) k fits b ∙ sym (byte_above-outside file s (base + k) (slice_index memory k) (inl (omega (arith, h.first)))))
+    (λ (b : at ≤ k). ⊎_elim
+    (λ (u : k < at + len).
+    let split : at + (k - at) ≡ k = omega arith in
+    subst (λ i. slice_index (copied file memory at from len) i ≡ byte_above file s (base + i) (slice_index memory i)) split
+    (copied-inside file memory s base at from len h (k - at) (omega arith)))
+    (λ (u : at + len ≤ k).
+    patched-after memory at (slice_of file from len) k fits (omega arith)
+    ∙ sym (byte_above-outside file s (base + k) (slice_index memory k) (inr (omega (arith, h.last)))))
+    (cases_lt k (at + len)))
+    (cases_lt k at)

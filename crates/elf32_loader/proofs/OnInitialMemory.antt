@@ -1,10 +1,10 @@
 -- What is mapped when a program starts
-use Rattle.std.proofs.Common.{◌≡◌, ℕ, ◌+◌, ◌-◌, ◌*◌, ◌/◌, ◌%◌, ◌^◌, ◌<◌, ◌≤◌, Bool, true, false, cond, ◌&&◌, ◌||◌, List, Some, None, is_some, ◌⊎◌, ⊎_elim, refl, sym, ap, ◌∙◌, arith}
+use Rattle.std.proofs.Common.{◌≡◌, ℕ, ◌+◌, ◌-◌, ◌*◌, ◌/◌, ◌%◌, ◌^◌, ◌<◌, ◌≤◌, true, cond, ◌&&◌, ◌||◌, List, Some, None, is_some, ⊎_elim, ap, ◌∙◌, arith}
 use Rattle.std.specs.Prelude.{nat_le, nat_lt, ◌==◌}
 use Rattle.std.specs.List.{list_any}
 use Rattle.std.proofs.Math.Path.{fun_ext}
-use Rattle.std.proofs.lemmas.Bool.{and_parts, and_from, or_from, or_cases, or_left, or_right, leb-true, ltb-true, le-leb, lt-ltb, eqb-true}
-use Rattle.guest_model.specs.ByteMap.{ByteMap, mapped}
+use Rattle.std.proofs.lemmas.Bool.{and_parts, and_from, or_cases, or_left, or_right, leb-true, ltb-true, le-leb, lt-ltb, eqb-true}
+use Rattle.guest_model.specs.ByteMap.{mapped}
 use Rattle.guest_model.specs.Image.{is_mapped_page, initial_memory}
 use Rattle.guest_model.specs.ImageFault.{is_entry, stack_base, stack_end}
 use Rattle.guest_model.specs.Segment.{Segment, has_page}
@@ -41,10 +41,10 @@ entry-page : (hs : List Segment) (h : Heap) (a : ℕ) → (list_any (has_page (a
 entry-page hs h a e = ⊎_elim
     (λ s. in_segments hs h (a / 4096) s)
     (λ s.
-      let parts = and_parts (nat_le stack_base a) (nat_lt a stack_end) s in
-      let l : stack_base ≤ a = leb-true stack_base a parts.0 in
-      let u : a < stack_end = ltb-true a stack_end parts.1 in
-      in_stack hs h (a / 4096) (omega arith) (omega arith))
+    let parts = and_parts (nat_le stack_base a) (nat_lt a stack_end) s in
+    let l : stack_base ≤ a = leb-true stack_base a parts.0 in
+    let u : a < stack_end = ltb-true a stack_end parts.1 in
+    in_stack hs h (a / 4096) (omega arith) (omega arith))
     (or_cases (list_any (has_page (a / 4096)) hs) (nat_le stack_base a && nat_lt a stack_end) e)
 
 pub entry-aligned : (hs : List Segment) (a : ℕ) → is_entry hs a ≡ true → a % 4 ≡ 0

@@ -1,13 +1,12 @@
 -- Areas that have the pages of ranges
-use Rattle.std.proofs.Common.{◌≡◌, ℕ, zero, suc, ◌+◌, ◌-◌, ◌*◌, ◌/◌, ◌%◌, ◌^◌, ◌<◌, ◌≤◌, Bool, true, false, cond, ◌&&◌, ◌||◌, List, [], ◌∷◌, ◌++◌, length, get_or, Some, None, ◌⊎◌, ⊎_elim, refl, sym, ap, ◌∙◌, arith}
-use Rattle.std.specs.Prelude.{nat_le, nat_lt, slice_index}
-use Rattle.std.specs.List.{All, AllPairs}
+use Rattle.std.proofs.Common.{◌≡◌, ℕ, suc, ◌+◌, ◌-◌, ◌*◌, ◌/◌, ◌^◌, ◌<◌, ◌≤◌, Bool, true, false, List, [], ◌∷◌, length, get_or, Some, refl, sym, ap, ◌∙◌, arith}
+use Rattle.std.specs.Prelude.{nat_le, nat_lt}
 use Rattle.std.proofs.Math.Path.{fun_ext}
-use Rattle.std.proofs.lemmas.Bool.{cases_lt, ltb-false, leb-false, and_parts, leb-true, ltb-true}
+use Rattle.std.proofs.lemmas.Bool.{and_parts, leb-true, ltb-true}
 use Rattle.std.proofs.lemmas.Bool.Decides.{nat_tests}
-use Rattle.guest_model.specs.AreaMap.{covers, areas_bytes, IsLayout, IsPageAligned, IsBelow, IsWithinSpace}
+use Rattle.guest_model.specs.AreaMap.{covers, areas_bytes, IsLayout}
 use Rattle.guest_model.specs.declared.areas.Area.{Area}
-use Rattle.elf32_loader.specs.PageRanges.{in_range, has_range, IsPageRange, IsBefore, IsRising, IsAreaOf, pages_bytes}
+use Rattle.elf32_loader.specs.PageRanges.{in_range, IsRising, IsAreaOf, pages_bytes}
 use Rattle.elf32_loader.specs.declared.page_range.PageRange.{PageRange}
 
 -- each area is that of the range at its place
@@ -39,7 +38,7 @@ areas_bytes-at_each byte (r ∷ rs) [] h q = let c : 0 ≡ length (r ∷ rs) = h
 areas_bytes-at_each byte (r ∷ rs) (x ∷ xs) h q =
     let c : length (x ∷ xs) ≡ length (r ∷ rs) = h.count in
     by_first byte r rs x xs q (covers x q) (h.each 0 r x (omega arith)) refl
-      (areas_bytes-at_each byte rs xs (record { count = omega arith; each = λ k d e l. h.each (suc k) d e (omega arith) }) q)
+    (areas_bytes-at_each byte rs xs (record { count = omega arith; each = λ k d e l. h.each (suc k) d e (omega arith) }) q)
 
 -- they make the memory of these pages
 pub areas_bytes-pages : (byte : ℕ → ℕ) (rs : List PageRange) (xs : List Area) → AreAreasOf byte rs xs → areas_bytes xs ≡ pages_bytes byte rs
@@ -47,21 +46,21 @@ areas_bytes-pages byte rs xs h = fun_ext (λ q. areas_bytes-at_each byte rs xs h
 
 -- areas of ranges that rise are a layout
 pub IsLayout-rising : (byte : ℕ → ℕ) (rs : List PageRange) (xs : List Area) → AreAreasOf byte rs xs → IsRising rs → (d : PageRange) → IsLayout xs
-IsLayout-rising byte rs xs h r d = record
-  { aligned = λ k e l.
+IsLayout-rising byte rs xs h r d = record {
+  aligned = λ k e l.
       let a = h.each k d e (omega (arith, h.count)) in
-      record { base = omega (arith, a.base); length = omega (arith, a.size) }
-  ; rising = λ i j e l m.
+      record { base = omega (arith, a.base); length = omega (arith, a.size) };
+  rising = λ i j e l m.
       let c : length xs ≡ length rs = h.count in
       let a = h.each i d e (omega arith) in
       let b = h.each j d e (omega arith) in
       let some : (get_or rs i d).first < (get_or rs i d).end = (r.ranges i d (omega arith)).some in
       let before : (get_or rs i d).end ≤ (get_or rs j d).first = r.order i j d l (omega arith) in
-      omega (arith, a.base, a.size, b.base)
-  ; within = λ k e l.
+      omega (arith, a.base, a.size, b.base);
+  within = λ k e l.
       let c : length xs ≡ length rs = h.count in
       let a = h.each k d e (omega arith) in
       let some : (get_or rs k d).first < (get_or rs k d).end = (r.ranges k d (omega arith)).some in
       let within : (get_or rs k d).end ≤ 2 ^ 20 = (r.ranges k d (omega arith)).within in
-      omega (arith, a.base, a.size)
-  }
+      omega (arith, a.base, a.size);
+}

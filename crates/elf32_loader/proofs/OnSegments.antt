@@ -1,8 +1,8 @@
 -- What is known of program headers that have no fault
-use Rattle.std.proofs.Common.{◌≡◌, ℕ, zero, suc, ◌+◌, ◌<◌, ◌≤◌, ◌^◌, Bool, true, false, not, cond, ◌&&◌, List, [], ◌∷◌, length, get_or, Option, Some, None, max, ◌⊎◌, ⊎_elim, inl, inr, refl, sym, ap, ◌∙◌, arith}
+use Rattle.std.proofs.Common.{◌≡◌, ℕ, zero, suc, ◌+◌, ◌<◌, ◌≤◌, ◌^◌, Bool, true, false, not, cond, List, [], ◌∷◌, length, get_or, Option, Some, None, ⊎_elim, refl, ap, ◌∙◌, arith}
 use Rattle.std.specs.Prelude.{nat_lt, option_map}
 use Rattle.std.specs.List.{All}
-use Rattle.std.proofs.lemmas.Bool.{cases_lt, and_parts, not_from_false, not-false}
+use Rattle.std.proofs.lemmas.Bool.{cases_lt, and_parts, not-false}
 use Rattle.std.proofs.lemmas.Bool.Decides.{nat_tests}
 use Rattle.std.proofs.lemmas.List.{get_or_default}
 use Rattle.std.proofs.lemmas.List.Elements.{All-head, All-tail}
@@ -39,9 +39,9 @@ least-none_each p zero h k l = absurd (omega arith)
 least-none_each p (suc n) h k l =
     let parts = or_else-none (least p n) (cond (p n) (Some n) None) h in
     ⊎_elim
-      (λ (r : k < n). least-none_each p n parts.0 k r)
-      (λ (r : n ≤ k). let e : k ≡ n = omega arith in ap p e ∙ chosen-none (p n) n parts.1)
-      (cases_lt k n)
+    (λ (r : k < n). least-none_each p n parts.0 k r)
+    (λ (r : n ≤ k). let e : k ≡ n = omega arith in ap p e ∙ chosen-none (p n) n parts.1)
+    (cases_lt k n)
 
 first_place-none_each : (test : Segment → Bool) (hs : List Segment) → first_place (λ k. test (nth hs k)) hs ≡ None → All (λ s. test s ≡ false) hs
 first_place-none_each test hs h k d l = ap test (get_or_default hs k d (nth [] 0) l) ∙ least-none_each (λ i. test (nth hs i)) (length hs) h k l
@@ -52,10 +52,10 @@ pub record HasNoFault (n a : ℕ) (hs : List Segment) : Type 0 where
   pub entry : is_entry hs a ≡ true
 
 pub HasNoFault-from : (n a : ℕ) (hs : List Segment) → first_some (segment_faults n a hs) ≡ None → HasNoFault n a hs
-HasNoFault-from n a hs h = record
-  { sizes = first_place-none_each (is_bad n) hs (option_map-none image.BadSegment (first_place (λ k. is_bad n (nth hs k)) hs) (first_some-none (segment_faults n a hs) h 1 (omega arith)))
-  ; entry = not-false (is_entry hs a) (fault_if-none (not (is_entry hs a)) image.Entry (first_some-none (segment_faults n a hs) h 5 (omega arith)))
-  }
+HasNoFault-from n a hs h = record {
+  sizes = first_place-none_each (is_bad n) hs (option_map-none image.BadSegment (first_place (λ k. is_bad n (nth hs k)) hs) (first_some-none (segment_faults n a hs) h 1 (omega arith)));
+  entry = not-false (is_entry hs a) (fault_if-none (not (is_entry hs a)) image.Entry (first_some-none (segment_faults n a hs) h 5 (omega arith)));
+}
 
 -- a loaded segment that is not bad
 pub record IsSound (n : ℕ) (s : Segment) : Type 0 where

@@ -1,5 +1,5 @@
 -- Ranges of pages, and the memory that they make
-use Rattle.std.specs.Prelude.{◌≡◌, ℕ, ◌+◌, ◌-◌, ◌*◌, ◌/◌, ◌%◌, ◌^◌, ◌<◌, ◌≤◌, Bool, ◌&&◌, nat_lt, nat_le, if◌then◌else◌, List, length, slice_index, Option, Some, None}
+use Rattle.std.specs.Prelude.{◌≡◌, ℕ, ◌+◌, ◌-◌, ◌*◌, ◌/◌, ◌%◌, ◌^◌, ◌<◌, ◌≤◌, Bool, ◌&&◌, nat_lt, nat_le, if◌then◌else◌, List, length, slice_index, Some, None}
 use Rattle.std.specs.List.{list_any, find, All, AllPairs}
 use Rattle.guest_model.specs.ByteMap.{ByteMap}
 use Rattle.guest_model.specs.Image.{byte_from}

@@ -19,6 +19,7 @@ pub fn heap_of(segments: &[Segment]) -> Heap
     requires { last_end segments.now ≤ 2 ^ 32 }
     ensures value { result ≡ heap_of segments.now }
     ensures pages { HasWholePages result }
+    ensures start { result.brk ≡ result.start }
 {
     let end = last_end(segments);
     let start = end.div_ceil(PAGE) * PAGE;

@@ -1,7 +1,9 @@
 ghost use Rattle.std.specs.Prelude.{◌≡◌, ◌≤◌, None, length, IfOk};
 ghost use Rattle.guest_model.specs.Difference.{first_some};
 ghost use Rattle.guest_model.specs.Image.{heap_of, initial_memory};
-ghost use Rattle.guest_model.specs.ImageFault.{segment_faults};
+ghost use Rattle.guest_model.specs.ImageFault.{header_fault, segment_faults};
+ghost use Rattle.guest_model.specs.Segment as elf;
+ghost use Rattle.elf32_loader.specs.HeaderTable.{HasTable};
 ghost use Rattle.elf32_loader.specs.LoadedImage.{image_of_loaded, Loads};
 
 use crate::areas::areas_of;
@@ -31,7 +33,16 @@ pub fn load(alloc: Global, bytes: &[u8]) -> Result<Loaded, ImageFault>
 {
     check_header(bytes)?;
     let table = read_segments(bytes);
-    let segments = &table[..segment_count(bytes)];
+    load_checked(alloc, bytes, &table[..segment_count(bytes)])
+}
+
+/// Loads an image whose ELF header has no fault, with its program headers.
+fn load_checked(alloc: Global, bytes: &[u8], segments: &[Segment]) -> Result<Loaded, ImageFault>
+    requires header { header_fault bytes.now ≡ None }
+    requires table { HasTable bytes.now }
+    requires segments { segments.now ≡ elf.segments bytes.now }
+    ensures { Loads bytes.now result }
+{
     let entry = word_at(bytes, 24);
     check_segments(segments, bytes.len(), entry)?;
     let loaded = load_segments(alloc, bytes, segments, entry)?;

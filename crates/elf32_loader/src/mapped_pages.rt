@@ -1,6 +1,6 @@
 //! Which pages of the address space are mapped.
 
-ghost use Rattle.std.specs.Prelude.{◌≡◌, ℕ, ◌+◌, ◌*◌, ◌^◌, ◌<◌, ◌≤◌, ◌&&◌, nat_le, nat_lt, IfOk};
+ghost use Rattle.std.specs.Prelude.{◌≡◌, ℕ, ◌+◌, ◌*◌, ◌^◌, ◌<◌, ◌≤◌, ◌&&◌, ◌∷◌, nat_le, nat_lt, IfOk};
 ghost use Rattle.std.specs.List.{All, list_any};
 ghost use Rattle.std.specs.List.Sorted.{IsNonDecreasingBy};
 ghost use Rattle.guest_model.specs.Image.{last_end, is_mapped_page};
@@ -88,11 +88,25 @@ fn merged(alloc: Global, sorted: &[PageRange]) -> Result<Vec<PageRange>, AllocEr
     ensures pages { IfOk result (λ v. (p : ℕ) → has_range v.items p ≡ has_range sorted.now p) }
     ensures rising { IfOk result (λ v. IsRising v.items) }
 {
-    let mut merged = Vec::with_capacity(alloc, sorted.len())?;
-    let [first, rest @ ..] = sorted else {
-        return Ok(merged);
-    };
-    let mut current = *first;
+    match sorted {
+        [] => Ok(Vec::new(alloc)),
+        [first, rest @ ..] => merged_from(alloc, *first, rest),
+    }
+}
+
+/// The same for a first range and those behind it.
+fn merged_from(
+    alloc: Global,
+    first: PageRange,
+    rest: &[PageRange],
+) -> Result<Vec<PageRange>, AllocError>
+    requires ranges { All IsPageRange (first ∷ rest.now) }
+    requires order { IsNonDecreasingBy (λ r. r.first) (first ∷ rest.now) }
+    ensures pages { IfOk result (λ v. (p : ℕ) → has_range v.items p ≡ has_range (first ∷ rest.now) p) }
+    ensures rising { IfOk result (λ v. IsRising v.items) }
+{
+    let mut merged = Vec::with_capacity(alloc, rest.len() + 1)?;
+    let mut current = first;
     for range in rest {
         match current.joined(*range) {
             Some(both) => current = both,

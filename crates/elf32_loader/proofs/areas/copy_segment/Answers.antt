@@ -1,8 +1,7 @@
-use Rattle.std.proofs.Common.{◌≡◌, ℕ, ◌+◌, ◌-◌, ◌<◌, ◌≤◌, true, false, ◌∙◌, sym, ap, length, get_or, arith}
+use Rattle.std.proofs.Common.{◌≡◌, ◌+◌, ◌-◌, ◌<◌, true, ◌∙◌, sym, ap, length, get_or, arith}
 use Rattle.guest_model.specs.Segment.{Segment, is_load}
-use Rattle.elf32_loader.specs.PageRanges.{byte_above}
 use Rattle.elf32_loader.proofs.OnSegments.{IsSound, IsSound-from}
-use Rattle.elf32_loader.proofs.OnFileBytes.{copied, copied-byte}
+use Rattle.elf32_loader.proofs.OnFileBytes.{copied-byte}
 use Rattle.elf32_loader.proofs.areas.copy_segment.Goals as goal
 
 pub returns-then-first-end-clause-bytes : goal.returns-then-first-end-clause-bytes
@@ -21,6 +20,6 @@ returns-then-first-end-clause-bytes c =
     let left : c.from-base.result ≡ c.args.base = c.from-base.ensures in
     let some : c.max-first.result < c.min-end.result = c.if-first-end.true in
     λ k l. ap (λ xs. get_or xs k 0) c.overwrite.ensures
-      ∙ copied-byte file memory s c.args.base at from len
-        (record { loaded = loaded; first = omega arith; start = omega arith; last = omega arith; fits = omega (arith, sound.file) })
-        k l
+    ∙ copied-byte file memory s c.args.base at from len
+    (record { loaded = loaded; first = omega arith; start = omega arith; last = omega arith; fits = omega (arith, sound.file) })
+    k l
