@@ -129,3 +129,6 @@ pub fn serve<M: Memory>(
         _ => Served::Answer(NO_SUCH_SERVICE),
     }
 }
+
+#[cfg(test)]
+mod tests;
