@@ -144,3 +144,6 @@ pub fn step<M: Memory>(state: &mut State<M>, input: &[u8], fast: bool) -> Steppe
     };
     execute(instr, state, input, fast)
 }
+
+#[cfg(test)]
+mod tests;
