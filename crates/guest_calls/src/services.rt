@@ -36,8 +36,7 @@ fn read<M: Memory>(
         let new = state_of (M.bytes memory.new) place.new heap f in
         Serves M.REFUSES fast (read_service input.now old descriptor at count) old new result }
     ensures place { place.new ≤ length input.now }
-    ensures kept {
-        Keeps (M.written memory.old) (M.bytes memory.old) (M.written memory.new) (M.bytes memory.new) }
+    ensures kept { Keeps (M.written memory.old) (M.bytes memory.old) (M.written memory.new) (M.bytes memory.new) }
 {
     if descriptor != 0 {
         return Served::Answer(BAD_DESCRIPTOR);
@@ -119,8 +118,7 @@ pub fn serve<M: Memory>(
         Serves M.REFUSES fast (service_of fast input.now old number a0 a1 a2) old new result }
     ensures no_memory { result ≡ Served.NoMemory → number ≡ 63 }
     ensures place { place.new ≤ length input.now }
-    ensures kept {
-        Keeps (M.written memory.old) (M.bytes memory.old) (M.written memory.new) (M.bytes memory.new) }
+    ensures kept { Keeps (M.written memory.old) (M.bytes memory.old) (M.written memory.new) (M.bytes memory.new) }
 {
     match number {
         63 => read(a0, a1, a2, memory, input, place),
