@@ -33,7 +33,8 @@ fn read<M: Memory>(
     requires { place.old ≤ length input.now }
     ensures means { (fast : Bool) (f : RegFile) (heap : Heap) →
         let old = state_of (M.bytes memory.old) place.old heap f in
-        Serves M.REFUSES fast (read_service input.now old descriptor at count) old (state_of (M.bytes memory.new) place.new heap f) result }
+        let new = state_of (M.bytes memory.new) place.new heap f in
+        Serves M.REFUSES fast (read_service input.now old descriptor at count) old new result }
     ensures place { place.new ≤ length input.now }
     ensures kept { Keeps (M.written memory.old) (M.bytes memory.old) (M.written memory.new) (M.bytes memory.new) }
 {
@@ -129,3 +130,6 @@ pub fn serve<M: Memory>(
         _ => Served::Answer(NO_SUCH_SERVICE),
     }
 }
+
+#[cfg(test)]
+mod tests;

@@ -167,3 +167,6 @@ pub fn decode(word: u32) -> Option<Instr>
         _ => None,
     }
 }
+
+#[cfg(test)]
+mod tests;

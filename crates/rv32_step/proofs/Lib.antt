@@ -1,1 +1,2 @@
+pub mod FastSteps
 mod ServiceSteps

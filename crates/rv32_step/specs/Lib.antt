@@ -1,2 +1,3 @@
+pub mod FastStep
 pub mod Moves
 pub mod Steps

@@ -1,8 +1,7 @@
 //! The values that instructions compute.
 
 ghost use Rattle.std.specs.Prelude.{◌≡◌, ◌*ℤ◌};
-ghost use Rattle.guest_model.specs.Word.{word_of};
-ghost use Rattle.guest_model.specs.Arithmetic.{flag, shift_right_signed, high_word, imm_value, op_value, taken, upper_value};
+ghost use Rattle.guest_model.specs.Arithmetic.{shift_right_signed, high_word, imm_value, op_value, taken, upper_value};
 ghost use Rattle.guest_model.specs.declared.instr.RegOp.TheVariants as R;
 
 use guest_model::{Cond, ImmOp, RegOp, UpperOp};

@@ -1,6 +1,6 @@
 //! The calls that open and close a dual region.
 
-ghost use Rattle.std.specs.Prelude.{◌≡◌, ℕ};
+ghost use Rattle.std.specs.Prelude.{◌≡◌};
 ghost use Rattle.guest_model.specs.MachineState.{flat};
 ghost use Rattle.guest_model.specs.Step.{at_call, at_fast, at_end};
 

@@ -1,12 +1,11 @@
 //! What the instructions do to the registers and to memory.
 
-ghost use Rattle.std.specs.Prelude.{◌≡◌, ◌<◌, ℕ};
+ghost use Rattle.std.specs.Prelude.{◌≡◌, ◌<◌};
 ghost use Rattle.guest_model.specs.Word.{word_of, sum};
-ghost use Rattle.guest_model.specs.Registers.{RegFile, reg, next, with_pc, with_result};
+ghost use Rattle.guest_model.specs.Registers.{next, with_pc, with_result};
 ghost use Rattle.guest_model.specs.ByteMap.{Stores, Keeps};
 ghost use Rattle.guest_model.specs.InstructionTable.{FieldsFit};
 ghost use Rattle.guest_model.specs.Effect.{jump, branch, address, load_value, load_effect, store_bytes, regs_effect};
-ghost use Rattle.guest_model.specs.Arithmetic.{imm_value, op_value, taken, upper_value};
 ghost use Rattle.rv32_step.specs.Moves.{Moves, ChangesRegisters};
 
 use crate::arithmetic::{imm_value, op_value, taken, upper_value};

@@ -1,11 +1,10 @@
 //! One instruction in place.
 
-ghost use Rattle.std.specs.Prelude.{◌≡◌, ◌≤◌, ◌<◌, length};
+ghost use Rattle.std.specs.Prelude.{◌≡◌, ◌≤◌, length};
 ghost use Rattle.guest_model.specs.ByteMap.{Keeps};
 ghost use Rattle.guest_model.specs.MachineState.{flat};
 ghost use Rattle.guest_model.specs.InstructionTable.{FieldsFit};
-ghost use Rattle.guest_model.specs.Effect.{address, effect, store_effect};
-ghost use Rattle.guest_model.specs.Registers.{reg};
+ghost use Rattle.guest_model.specs.Effect.{effect, store_effect};
 ghost use Rattle.guest_model.specs.Service.{service};
 ghost use Rattle.guest_model.specs.Step.{step, step_instr, after_effect};
 ghost use Rattle.rv32_step.specs.Moves.{ChangesRegisters};
@@ -17,22 +16,27 @@ use guest_calls::{Served, serve};
 use guest_model::{End, Instr, Memory, State, StoreFault, StoreWidth, Trap};
 use rv32_decode::decode;
 
-/// The registers of a service: its first argument, which takes the answer, the further arguments and the number.
+/// The register a0: the first argument of a service, and its answer.
 const A0: u8 = 10;
 
+/// The register a1: the second argument.
 const A1: u8 = 11;
 
+/// The register a2: the third argument.
 const A2: u8 = 12;
 
+/// The register a7: the number of the service.
 const A7: u8 = 17;
 
 /// Carries out ECALL.
 #[tactic(auto, unfolding(guest_model::specs::Service::service))]
 fn call_service<M: Memory>(state: &mut State<M>, input: &[u8], fast: bool) -> Stepped
     requires { state.old.place ≤ length input.now }
-    ensures means { Steps M.REFUSES (service fast input.now (flat M.bytes state.old)) (flat M.bytes state.old) (flat M.bytes state.new) result }
+    ensures means { let old = flat M.bytes state.old in
+        Steps M.REFUSES (service fast input.now old) old (flat M.bytes state.new) result }
     ensures place { state.new.place ≤ length input.now }
-    ensures kept { Keeps (M.written state.old.memory) (M.bytes state.old.memory) (M.written state.new.memory) (M.bytes state.new.memory) }
+    ensures kept { let old = state.old.memory in let new = state.new.memory in
+        Keeps (M.written old) (M.bytes old) (M.written new) (M.bytes new) }
 {
     let number = state.regs.get(A7);
     let a0 = state.regs.get(A0);
@@ -71,9 +75,12 @@ fn call_service<M: Memory>(state: &mut State<M>, input: &[u8], fast: bool) -> St
 
 #[inline]
 fn store<M: Memory>(width: StoreWidth, at: u32, value: u32, state: &mut State<M>) -> Stepped
-    ensures means { Steps M.REFUSES (after_effect state.old.regs.pc (store_effect width at value (flat M.bytes state.old))) (flat M.bytes state.old) (flat M.bytes state.new) result }
+    ensures means { let old = flat M.bytes state.old in
+        let want = after_effect state.old.regs.pc (store_effect width at value old) in
+        Steps M.REFUSES want old (flat M.bytes state.new) result }
     ensures place { state.new.place ≡ state.old.place }
-    ensures kept { Keeps (M.written state.old.memory) (M.bytes state.old.memory) (M.written state.new.memory) (M.bytes state.new.memory) }
+    ensures kept { let old = state.old.memory in let new = state.new.memory in
+        Keeps (M.written old) (M.bytes old) (M.written new) (M.bytes new) }
 {
     match store_bytes(width, at, value, &mut state.memory) {
         Ok(()) => {
@@ -89,7 +96,9 @@ fn store<M: Memory>(width: StoreWidth, at: u32, value: u32, state: &mut State<M>
 fn on_registers<M: Memory>(instr: Instr, state: &mut State<M>) -> Stepped
     requires fit { FieldsFit instr }
     requires registers { ChangesRegisters instr }
-    ensures means { Steps M.REFUSES (after_effect state.old.regs.pc (effect instr (flat M.bytes state.old))) (flat M.bytes state.old) (flat M.bytes state.new) result }
+    ensures means { let old = flat M.bytes state.old in
+        let want = after_effect state.old.regs.pc (effect instr old) in
+        Steps M.REFUSES want old (flat M.bytes state.new) result }
     ensures rest { state.new ≡ record state.old { regs = state.new.regs } }
 {
     match change_registers(instr, &mut state.regs, &state.memory) {
@@ -102,9 +111,11 @@ fn on_registers<M: Memory>(instr: Instr, state: &mut State<M>) -> Stepped
 fn execute<M: Memory>(instr: Instr, state: &mut State<M>, input: &[u8], fast: bool) -> Stepped
     requires fit { FieldsFit instr }
     requires place { state.old.place ≤ length input.now }
-    ensures means { Steps M.REFUSES (step_instr fast input.now (flat M.bytes state.old) instr) (flat M.bytes state.old) (flat M.bytes state.new) result }
+    ensures means { let old = flat M.bytes state.old in
+        Steps M.REFUSES (step_instr fast input.now old instr) old (flat M.bytes state.new) result }
     ensures place { state.new.place ≤ length input.now }
-    ensures kept { Keeps (M.written state.old.memory) (M.bytes state.old.memory) (M.written state.new.memory) (M.bytes state.new.memory) }
+    ensures kept { let old = state.old.memory in let new = state.new.memory in
+        Keeps (M.written old) (M.bytes old) (M.written new) (M.bytes new) }
 {
     match instr {
         Instr::Ecall => call_service(state, input, fast),
@@ -131,9 +142,11 @@ fn execute<M: Memory>(instr: Instr, state: &mut State<M>, input: &[u8], fast: bo
 #[tactic(auto, unfolding(guest_model::specs::Step::step))]
 pub fn step<M: Memory>(state: &mut State<M>, input: &[u8], fast: bool) -> Stepped
     requires { state.old.place ≤ length input.now }
-    ensures means { Steps M.REFUSES (step fast input.now (flat M.bytes state.old)) (flat M.bytes state.old) (flat M.bytes state.new) result }
+    ensures means { let old = flat M.bytes state.old in
+        Steps M.REFUSES (step fast input.now old) old (flat M.bytes state.new) result }
     ensures place { state.new.place ≤ length input.now }
-    ensures kept { Keeps (M.written state.old.memory) (M.bytes state.old.memory) (M.written state.new.memory) (M.bytes state.new.memory) }
+    ensures kept { let old = state.old.memory in let new = state.new.memory in
+        Keeps (M.written old) (M.bytes old) (M.written new) (M.bytes new) }
 {
     let pc = state.regs.pc();
     let Some(word) = state.memory.load32(pc) else {
@@ -144,3 +157,6 @@ pub fn step<M: Memory>(state: &mut State<M>, input: &[u8], fast: bool) -> Steppe
     };
     execute(instr, state, input, fast)
 }
+
+#[cfg(test)]
+mod tests;
