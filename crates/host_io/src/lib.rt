@@ -31,3 +31,6 @@ pub use sink::Sink;
 pub use source::Source;
 pub use take::{Took, take_file, take_source};
 pub use write::write_whole;
+
+#[cfg(test)]
+mod tests;
