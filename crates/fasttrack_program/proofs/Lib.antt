@@ -1,1 +1,2 @@
+pub mod OnReading
 pub mod OnStreams

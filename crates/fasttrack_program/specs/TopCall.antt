@@ -1,15 +1,14 @@
 -- What a call of the program answers, and what it leaves on `out` and `notes`
-use Rattle.std.specs.Prelude.{◌≡◌, ℕ, ◌<◌, List, length, take, Option, Some, None, ◌⊎◌}
-use Rattle.std.specs.Io.KnownBytes.{Appends}
+use Rattle.std.specs.Prelude.{◌≡◌, ℕ, List, Option, Some}
 use Rattle.speculation.specs.Record.{output_of}
-use Rattle.host_io.specs.Faults.{Rose}
 use Rattle.guest_model.specs.Image.{program_alone}
 use Rattle.guest_model.specs.declared.end.End.{End}
 use Rattle.guest_model.specs.declared.end.End.TheVariants as E
 use Rattle.elf32_loader.specs.FaultOf.{fault_of}
 use Rattle.elf32_loader.specs.declared.fault.ImageFault.{ImageFault}
 use Rattle.fasttrack_program.specs.GuestStreams.{Sinks, GetsAll, GetsPart, StopsShort, end_of}
-use Rattle.fasttrack_program.specs.Plan.{Plan, Refused, Runs, BadWords, LongImage, BadFile, LongInput}
+use Rattle.fasttrack_program.specs.Plan.{Request, Plan, Refused, Runs, BadWords, LongImage, BadFile, LongInput, plan}
+use Rattle.fasttrack_program.specs.Reading.{IsTold}
 use Rattle.fasttrack_program.specs.declared.answer.Answer.{Answer}
 use Rattle.fasttrack_program.specs.declared.answer.Answer.TheVariants.{Exited, Trapped, Spent, Usage, ReadFault, ImageTooLong, BadImage, InputTooLong, WriteFault, NoMemory}
 
@@ -48,3 +47,11 @@ Serves p old new (BadImage f) = HasFault p f × (new ≡ old)
 Serves p old new InputTooLong = (p ≡ Refused LongInput) × (new ≡ old)
 Serves p old new WriteFault = FailsIn p old new
 Serves p old new NoMemory = StaysWithin p old new
+
+-- The answer is that of the plan for some file and some input, which are those that are told, where they are.
+pub record IsServed (request : Option Request) (told_file told_input : Option (List ℕ)) (old new : Sinks) (answer : Answer) : Type 0 where
+  pub file : List ℕ
+  pub input : List ℕ
+  pub file_told : IsTold told_file file
+  pub input_told : IsTold told_input input
+  pub serves : Serves (plan request file input) old new answer

@@ -5,4 +5,6 @@ mod alone;
 mod answer;
 mod answer_line;
 mod fault_text;
+mod read;
+mod serve;
 
