@@ -1,2 +1,4 @@
+pub mod OnLines
+pub mod OnPlans
 pub mod OnReading
 pub mod OnStreams

@@ -55,3 +55,10 @@ pub record IsServed (request : Option Request) (told_file told_input : Option (L
   pub file_told : IsTold told_file file
   pub input_told : IsTold told_input input
   pub serves : Serves (plan request file input) old new answer
+
+-- the answers that come before the input's place in the order, but for a fault and for want of memory
+abbrev pub IsRefusedEarly : Answer → Type 0
+IsRefusedEarly Usage = Unit {0}
+IsRefusedEarly ImageTooLong = Unit {0}
+IsRefusedEarly (BadImage f) = Unit {0}
+IsRefusedEarly _ = ⊥

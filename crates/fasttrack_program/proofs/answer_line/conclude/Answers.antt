@@ -1,0 +1,32 @@
+use Rattle.std.proofs.Common.{◌≡◌, Some, None, refl, sym, ap, ◌∙◌}
+use Rattle.fasttrack_program.specs.AnswerLine.{line_of}
+use Rattle.fasttrack_program.proofs.OnLines.{Concludes-own, Concludes-same, Concludes-silent}
+use Rattle.fasttrack_program.specs.declared.answer.Answer.TheVariants.{Trapped, BadImage}
+use Rattle.fasttrack_program.proofs.answer_line.conclude.Goals as goal
+
+pub returns-in-Exited : goal.returns-in-Exited
+returns-in-Exited g c = Concludes-silent _ _ c.args.answer (ap line_of c.in-Exited.is)
+
+pub returns-in-Ok : goal.returns-in-Ok
+returns-in-Ok g c = Concludes-same _ _ _ _ c.args.answer (Trapped c.in-Trapped.trap c.in-Trapped.pc) c.tell.result _ c.in-Trapped.is (c.in-Ok.ensures ∙ ap Some (sym c.as_str.ensures.value)) c.tell.ensures
+
+pub returns-in-Ok-fault_line : goal.returns-in-Ok-fault_line
+returns-in-Ok-fault_line g c = Concludes-same _ _ _ _ c.args.answer (BadImage c.in-BadImage.fault) c.tell-in-Ok-fault_line.result _ c.in-BadImage.is (c.in-Ok-fault_line.ensures ∙ ap Some (sym c.as_str-in-Ok-fault_line.ensures.value)) c.tell-in-Ok-fault_line.ensures
+
+pub returns-in-Spent : goal.returns-in-Spent
+returns-in-Spent g c = Concludes-own _ _ _ _ c.args.answer c.tell-in-Spent.result _ (ap line_of c.in-Spent.is) c.tell-in-Spent.ensures
+
+pub returns-in-Usage : goal.returns-in-Usage
+returns-in-Usage g c = Concludes-own _ _ _ _ c.args.answer c.tell-in-Usage.result _ (ap line_of c.in-Usage.is) c.tell-in-Usage.ensures
+
+pub returns-in-ReadFault : goal.returns-in-ReadFault
+returns-in-ReadFault g c = Concludes-own _ _ _ _ c.args.answer c.tell-in-ReadFault.result _ (ap line_of c.in-ReadFault.is) c.tell-in-ReadFault.ensures
+
+pub returns-in-ImageTooLong : goal.returns-in-ImageTooLong
+returns-in-ImageTooLong g c = Concludes-own _ _ _ _ c.args.answer c.tell-in-ImageTooLong.result _ (ap line_of c.in-ImageTooLong.is) c.tell-in-ImageTooLong.ensures
+
+pub returns-in-InputTooLong : goal.returns-in-InputTooLong
+returns-in-InputTooLong g c = Concludes-own _ _ _ _ c.args.answer c.tell-in-InputTooLong.result _ (ap line_of c.in-InputTooLong.is) c.tell-in-InputTooLong.ensures
+
+pub returns-in-WriteFault : goal.returns-in-WriteFault
+returns-in-WriteFault g c = Concludes-own _ _ _ _ c.args.answer c.tell-in-WriteFault.result _ (ap line_of c.in-WriteFault.is) c.tell-in-WriteFault.ensures
