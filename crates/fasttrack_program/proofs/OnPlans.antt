@@ -30,61 +30,61 @@ told_are (Some bs) = refl
 -- nothing was written
 pub StaysWithin-refl : (p : Plan) (s : Sinks) → StaysWithin p s s
 StaysWithin-refl (Refused r) s = refl
-StaysWithin-refl (Runs i input budget) s = record
-  { got = []
-  ; rest = output_of (program_alone i input budget)
-  ; parts = refl
-  ; gets = Gets-nothing s
-  ; calm = IsCalm-refl s
-  }
+StaysWithin-refl (Runs i input budget) s = record {
+  got = [];
+  rest = output_of (program_alone i input budget);
+  parts = refl;
+  gets = Gets-nothing s;
+  calm = IsCalm-refl s;
+}
 
 -- the words ask for nothing
 pub served-usage : (told_file told_input : Option (List ℕ)) (s : Sinks) → IsServed None told_file told_input s s Usage
-served-usage told_file told_input s = record
-  { file = told_bytes told_file
-  ; input = told_bytes told_input
-  ; file_told = told_are told_file
-  ; input_told = told_are told_input
-  ; serves = (refl, refl)
-  }
+served-usage told_file told_input s = record {
+  file = told_bytes told_file;
+  input = told_bytes told_input;
+  file_told = told_are told_file;
+  input_told = told_are told_input;
+  serves = (refl, refl);
+}
 
 -- there was no memory before anything was written
 pub served-no_memory : (r : Option Request) (told_file told_input : Option (List ℕ)) (s : Sinks) → IsServed r told_file told_input s s NoMemory
-served-no_memory r told_file told_input s = record
-  { file = told_bytes told_file
-  ; input = told_bytes told_input
-  ; file_told = told_are told_file
-  ; input_told = told_are told_input
-  ; serves = StaysWithin-refl (plan r (told_bytes told_file) (told_bytes told_input)) s
-  }
+served-no_memory r told_file told_input s = record {
+  file = told_bytes told_file;
+  input = told_bytes told_input;
+  file_told = told_are told_file;
+  input_told = told_are told_input;
+  serves = StaysWithin-refl (plan r (told_bytes told_file) (told_bytes told_input)) s;
+}
 
 served-read_fault : (r : Option Request) (told_file told_input : Option (List ℕ)) (s : Sinks) → IsServed r told_file told_input s s ReadFault
-served-read_fault r told_file told_input s = record
-  { file = told_bytes told_file
-  ; input = told_bytes told_input
-  ; file_told = told_are told_file
-  ; input_told = told_are told_input
-  ; serves = refl
-  }
+served-read_fault r told_file told_input s = record {
+  file = told_bytes told_file;
+  input = told_bytes told_input;
+  file_told = told_are told_file;
+  input_told = told_are told_input;
+  serves = refl;
+}
 
 -- the image was refused
 pub served-image : (r : Request) (told_file told_input : Option (List ℕ)) (s : Sinks) (a : Answer) → ReadsImage told_file (Err a) → IsServed (Some r) told_file told_input s s a
 served-image r told_file told_input s ReadFault h = served-read_fault (Some r) told_file told_input s
 served-image r told_file told_input s NoMemory h = served-no_memory (Some r) told_file told_input s
-served-image r told_file told_input s ImageTooLong h = record
-  { file = h.0
-  ; input = told_bytes told_input
-  ; file_told = h.1
-  ; input_told = told_are told_input
-  ; serves = (ap (with_image r (told_bytes told_input)) h.2, refl)
-  }
-served-image r told_file told_input s (BadImage f) h = record
-  { file = h.0
-  ; input = told_bytes told_input
-  ; file_told = h.2
-  ; input_told = told_are told_input
-  ; serves = subst (λ p. Serves p s s (BadImage f)) (sym (ap (with_image r (told_bytes told_input)) h.4)) (h.3, refl)
-  }
+served-image r told_file told_input s ImageTooLong h = record {
+  file = h.0;
+  input = told_bytes told_input;
+  file_told = h.1;
+  input_told = told_are told_input;
+  serves = (ap (with_image r (told_bytes told_input)) h.2, refl);
+}
+served-image r told_file told_input s (BadImage f) h = record {
+  file = h.0;
+  input = told_bytes told_input;
+  file_told = h.2;
+  input_told = told_are told_input;
+  serves = subst (λ p. Serves p s s (BadImage f)) (sym (ap (with_image r (told_bytes told_input)) h.4)) (h.3, refl);
+}
 served-image r told_file told_input s (Exited c) h = absurd h
 served-image r told_file told_input s (Trapped t pc) h = absurd h
 served-image r told_file told_input s Spent h = absurd h
@@ -99,13 +99,13 @@ long_input r i input n h = let long : nat_lt input_limit (length input) ≡ true
 pub served-input : (r : Request) (told_file told_input : Option (List ℕ)) (s : Sinks) (l : Loaded) (a : Answer) → r.no_input ≡ false → ReadsImage told_file (Ok l) → ReadsInput told_input (Err a) → IsServed (Some r) told_file told_input s s a
 served-input r told_file told_input s l ReadFault n h k = served-read_fault (Some r) told_file told_input s
 served-input r told_file told_input s l NoMemory n h k = served-no_memory (Some r) told_file told_input s
-served-input r told_file told_input s l InputTooLong n h k = record
-  { file = h.0
-  ; input = k.0
-  ; file_told = h.1
-  ; input_told = k.1
-  ; serves = (ap (with_image r k.0) h.2 ∙ long_input r (image_of_loaded l) k.0 n k.2, refl)
-  }
+served-input r told_file told_input s l InputTooLong n h k = record {
+  file = h.0;
+  input = k.0;
+  file_told = h.1;
+  input_told = k.1;
+  serves = (ap (with_image r k.0) h.2 ∙ long_input r (image_of_loaded l) k.0 n k.2, refl);
+}
 served-input r told_file told_input s l (Exited c) n h k = absurd k
 served-input r told_file told_input s l (Trapped t pc) n h k = absurd k
 served-input r told_file told_input s l Spent n h k = absurd k
@@ -119,22 +119,22 @@ plan_runs r file input got i h e = ap (with_image r input) h ∙ e
 
 -- the guest ran without input
 pub served-no_input : (r : Request) (told_file told_input : Option (List ℕ)) (old new : Sinks) (l : Loaded) (a : Answer) → r.no_input ≡ true → ReadsImage told_file (Ok l) → Serves (Runs (image_of_loaded l) [] r.budget) old new a → IsServed (Some r) told_file told_input old new a
-served-no_input r told_file told_input old new l a n h v = record
-  { file = h.0
-  ; input = told_bytes told_input
-  ; file_told = h.1
-  ; input_told = told_are told_input
-  ; serves = subst (λ p. Serves p old new a) (sym (plan_runs r h.0 (told_bytes told_input) [] (image_of_loaded l) h.2 (rw n refl))) v
-  }
+served-no_input r told_file told_input old new l a n h v = record {
+  file = h.0;
+  input = told_bytes told_input;
+  file_told = h.1;
+  input_told = told_are told_input;
+  serves = subst (λ p. Serves p old new a) (sym (plan_runs r h.0 (told_bytes told_input) [] (image_of_loaded l) h.2 (rw n refl))) v;
+}
 
 -- the guest ran with the input that was read
 pub served-runs : (r : Request) (told_file told_input : Option (List ℕ)) (old new : Sinks) (l : Loaded) (bs : Bytes) (a : Answer) → r.no_input ≡ false → ReadsImage told_file (Ok l) → ReadsInput told_input (Ok bs) → Serves (Runs (image_of_loaded l) bs r.budget) old new a → IsServed (Some r) told_file told_input old new a
 served-runs r told_file told_input old new l bs a n h k v =
     let short : nat_lt input_limit (length bs) ≡ false = grind (arith, nat_tests) in
-    record
-      { file = h.0
-      ; input = bs
-      ; file_told = h.1
-      ; input_told = k.1
-      ; serves = subst (λ p. Serves p old new a) (sym (plan_runs r h.0 bs bs (image_of_loaded l) h.2 (rw (n, short) refl))) v
-      }
+    record {
+      file = h.0;
+      input = bs;
+      file_told = h.1;
+      input_told = k.1;
+      serves = subst (λ p. Serves p old new a) (sym (plan_runs r h.0 bs bs (image_of_loaded l) h.2 (rw (n, short) refl))) v;
+    }

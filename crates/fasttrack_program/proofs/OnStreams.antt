@@ -158,10 +158,10 @@ module _ {S D : Type 0} (m : Machine S End D) where
 
   -- the budget is spent
   pub SoFar-spent : (start : S) (done budget : ℕ) (s : S) (old now : Sinks) → SoFar start done s old now → done ≡ budget → GetsAll old now (output_of (alone m start budget)) × (Spent ≡ end_of (alone m start budget).end)
-  SoFar-spent start done budget s old now so e =
-      ( subst (GetsAll old now) (sym (output-alone m start budget ∙ ap (out m (fresh start)) (sym e))) so.written
-      , ap end_of (sym (end-alone m start budget ∙ ap (λ n. (go m (fresh start) n).end) (sym e) ∙ ap (λ (q : Point S End). q.end) so.stands))
-      )
+  SoFar-spent start done budget s old now so e = (
+    subst (GetsAll old now) (sym (output-alone m start budget ∙ ap (out m (fresh start)) (sym e))) so.written,
+    ap end_of (sym (end-alone m start budget ∙ ap (λ n. (go m (fresh start) n).end) (sym e) ∙ ap (λ (q : Point S End). q.end) so.stands)),
+  )
 
   -- nothing is written behind an end
   out-stays : (start : S) (n budget : ℕ) (e : End) → budget ≡ n + (budget - n) → (go m (fresh start) n).end ≡ Some e → out m (fresh start) budget ≡ out m (fresh start) n

@@ -7,4 +7,3 @@ mod answer_line;
 mod fault_text;
 mod read;
 mod serve;
-

@@ -67,31 +67,32 @@ pub record SameAddresses (xs ys : List Area) : Type 0 where
   pub size : (k : ℕ) (d : Area) → k < length xs → length (get_or ys k d).bytes ≡ length (get_or xs k d).bytes
 
 pub SameAddresses-set : (xs : List Area) (k : ℕ) (y : Area) → k < length xs → ((d : Area) → y.base ≡ (get_or xs k d).base) → ((d : Area) → length y.bytes ≡ length (get_or xs k d).bytes) → SameAddresses xs (set xs k y)
-SameAddresses-set xs k y h b l = record
-  { count = length-set xs k y
-  ; base = λ j d r. same_base j d r (cases_eq j k)
-  ; size = λ j d r. same_size j d r (cases_eq j k)
-  }
+SameAddresses-set xs k y h b l = record {
+  count = length-set xs k y;
+  base = λ j d r. same_base j d r (cases_eq j k);
+  size = λ j d r. same_size j d r (cases_eq j k);
+}
   where
     same_base : (j : ℕ) (d : Area) → j < length xs → (j ≡ k) ⊎ (j ≡ k → ⊥) → (get_or (set xs k y) j d).base ≡ (get_or xs j d).base
     same_base j d r (inl e) = grind (arith, common_steps, b d)
     same_base j d r (inr n) = grind (arith, common_steps)
+
     same_size : (j : ℕ) (d : Area) → j < length xs → (j ≡ k) ⊎ (j ≡ k → ⊥) → length (get_or (set xs k y) j d).bytes ≡ length (get_or xs j d).bytes
     same_size j d r (inl e) = grind (arith, common_steps, l d)
     same_size j d r (inr n) = grind (arith, common_steps)
 
 pub IsLayout-same : (xs ys : List Area) → SameAddresses xs ys → IsLayout xs → IsLayout ys
-IsLayout-same xs ys s l = record
-  { aligned = λ k d h.
+IsLayout-same xs ys s l = record {
+  aligned = λ k d h.
       let r : k < length xs = omega (arith, s.count) in
-      record
-        { base = ap (λ n. n % 4096) (s.base k d r) ∙ (l.aligned k d r).base
-        ; length = ap (λ n. n % 4096) (s.size k d r) ∙ (l.aligned k d r).length
-        }
-  ; rising = λ i j d h r.
+      record {
+        base = ap (λ n. n % 4096) (s.base k d r) ∙ (l.aligned k d r).base;
+        length = ap (λ n. n % 4096) (s.size k d r) ∙ (l.aligned k d r).length;
+      };
+  rising = λ i j d h r.
       let q : j < length xs = omega (arith, s.count) in
-      omega (arith, s.base i d (omega arith), s.size i d (omega arith), s.base j d q, l.rising i j d h q)
-  ; within = λ k d h.
+      omega (arith, s.base i d (omega arith), s.size i d (omega arith), s.base j d q, l.rising i j d h q);
+  within = λ k d h.
       let r : k < length xs = omega (arith, s.count) in
-      omega (arith, s.base k d r, s.size k d r, l.within k d r)
-  }
+      omega (arith, s.base k d r, s.size k d r, l.within k d r);
+}

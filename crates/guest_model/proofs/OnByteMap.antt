@@ -120,16 +120,17 @@ write-more m a bs b = write-is m (write (write m a bs) (a + length bs) (b ∷ []
     more-outside : (q : ℕ) → (q < a) ⊎ (a + length (bs ++ b ∷ []) ≤ q) → write (write m a bs) (a + length bs) (b ∷ []) q ≡ m q
     more-outside q (inl h) = write-outside (write m a bs) (a + length bs) (b ∷ []) q (inl (omega arith)) ∙ write-outside m a bs q (inl h)
     more-outside q (inr h) =
-      let e : length (bs ++ b ∷ []) ≡ length bs + 1 = length-append bs (b ∷ []) in
-      write-outside (write m a bs) (a + length bs) (b ∷ []) q (inr (omega arith)) ∙ write-outside m a bs q (inr (omega arith))
+        let e : length (bs ++ b ∷ []) ≡ length bs + 1 = length-append bs (b ∷ []) in
+        write-outside (write m a bs) (a + length bs) (b ∷ []) q (inr (omega arith)) ∙ write-outside m a bs q (inr (omega arith))
+
     more-inside : (q : ℕ) → a ≤ q → q < a + length (bs ++ b ∷ []) → (q < a + length bs) ⊎ (a + length bs ≤ q) → write (write m a bs) (a + length bs) (b ∷ []) q ≡ Some (slice_index (bs ++ b ∷ []) (q - a))
     more-inside q l r (inl h) =
-      let i : q - a < length bs = omega arith in
-      let e : get_or (bs ++ b ∷ []) (q - a) 0 ≡ get_or bs (q - a) 0 = grind (arith, common_steps) in
-      write-outside (write m a bs) (a + length bs) (b ∷ []) q (inl h) ∙ write-inside m a bs q l h ∙ ap Some (sym e)
+        let i : q - a < length bs = omega arith in
+        let e : get_or (bs ++ b ∷ []) (q - a) 0 ≡ get_or bs (q - a) 0 = grind (arith, common_steps) in
+        write-outside (write m a bs) (a + length bs) (b ∷ []) q (inl h) ∙ write-inside m a bs q l h ∙ ap Some (sym e)
     more-inside q l r (inr h) =
-      let e : length (bs ++ b ∷ []) ≡ length bs + 1 = length-append bs (b ∷ []) in
-      let at : q - a ≡ length bs = omega arith in
-      let z : q - (a + length bs) ≡ 0 = omega arith in
-      let last : get_or (bs ++ b ∷ []) (q - a) 0 ≡ b = grind (arith, common_steps) in
-      write-inside (write m a bs) (a + length bs) (b ∷ []) q h (omega arith) ∙ ap (λ i. Some (slice_index (b ∷ []) i)) z ∙ ap Some (sym last)
+        let e : length (bs ++ b ∷ []) ≡ length bs + 1 = length-append bs (b ∷ []) in
+        let at : q - a ≡ length bs = omega arith in
+        let z : q - (a + length bs) ≡ 0 = omega arith in
+        let last : get_or (bs ++ b ∷ []) (q - a) 0 ≡ b = grind (arith, common_steps) in
+        write-inside (write m a bs) (a + length bs) (b ∷ []) q h (omega arith) ∙ ap (λ i. Some (slice_index (b ∷ []) i)) z ∙ ap Some (sym last)

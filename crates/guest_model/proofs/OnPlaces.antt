@@ -31,11 +31,11 @@ place-mapped xs a n p d l h =
 
 -- these are its bytes
 pub place-piece : (xs : List Area) (a n : ℕ) (p : Place) (d : Area) (bs : List ℕ) → IsLayout xs → IsPlace xs a n p → length bs ≡ n → ((k : ℕ) → k < n → get_or bs k 0 ≡ slice_index (get_or xs p.index d).bytes (p.offset + k)) → IsPiece (areas_bytes xs) a n bs
-place-piece xs a n p d bs l h c e = record
-  { count = c
-  ; mapped = place-mapped xs a n p d l h
-  ; bytes = bytes_from-fill (areas_bytes xs) a n bs c (λ k r. e k r ∙ sym (ap (λ o. unwrap_or o 0) (place-byte xs a n k p d l h r)))
-  }
+place-piece xs a n p d bs l h c e = record {
+  count = c;
+  mapped = place-mapped xs a n p d l h;
+  bytes = bytes_from-fill (areas_bytes xs) a n bs c (λ k r. e k r ∙ sym (ap (λ o. unwrap_or o 0) (place-byte xs a n k p d l h r)));
+}
 
 -- ---- a list of bytes with a part replaced
 
@@ -77,39 +77,49 @@ patched-write xs a from p y l h e = write-is (areas_bytes xs) (areas_bytes (set 
   where
     x : Area
     x = get_or xs p.index y
+
     new_layout : IsLayout (set xs p.index y)
     new_layout = patched-layout xs a from p y l h e
+
     new_index : p.index < length (set xs p.index y)
     new_index = omega (arith, length-set xs p.index y, h.index)
+
     at : x.base + p.offset ≡ a
     at = (h.here y).address
+
     fits : p.offset + length from ≤ length x.bytes
     fits = (h.here y).within
+
     same_base : y.base ≡ x.base
     same_base = (e y).base
+
     same_size : length y.bytes ≡ length x.bytes
     same_size = same_length x y p.offset from fits (e y)
+
     new_byte : (q : ℕ) → x.base ≤ q → q < x.base + length x.bytes → areas_bytes (set xs p.index y) q ≡ Some (slice_index y.bytes (q - x.base))
     new_byte q m r =
-      byte-of (set xs p.index y) p.index q y y (get_or-set_same xs p.index y y h.index) new_layout new_index (omega (arith, same_base)) (omega (arith, same_base, same_size))
-      ∙ ap (λ b. Some (slice_index y.bytes (q - b))) same_base
+        byte-of (set xs p.index y) p.index q y y (get_or-set_same xs p.index y y h.index) new_layout new_index (omega (arith, same_base)) (omega (arith, same_base, same_size))
+        ∙ ap (λ b. Some (slice_index y.bytes (q - b))) same_base
+
     old_byte : (q : ℕ) → x.base ≤ q → q < x.base + length x.bytes → areas_bytes xs q ≡ Some (slice_index x.bytes (q - x.base))
     old_byte q m r = byte-of xs p.index q y x refl l h.index m r
+
     outside : (q : ℕ) → (q < a) ⊎ (a + length from ≤ q) → (q < x.base) ⊎ (x.base ≤ q) → (q < x.base + length x.bytes) ⊎ (x.base + length x.bytes ≤ q) → areas_bytes (set xs p.index y) q ≡ areas_bytes xs q
     outside q o (inl b) _ = areas_bytes-set_outside xs p.index q y y h.index same_base same_size (covers-before x q b)
     outside q o (inr b) (inr r) = areas_bytes-set_outside xs p.index q y y h.index same_base same_size (covers-after x q r)
     outside q (inl o) (inr b) (inl r) =
-      let before : q - x.base < p.offset = omega (arith, at) in
-      new_byte q b r ∙ ap (λ bs. Some (slice_index bs (q - x.base))) (e y).bytes ∙ ap Some (patched-before x.bytes p.offset from (q - x.base) fits before) ∙ sym (old_byte q b r)
+        let before : q - x.base < p.offset = omega (arith, at) in
+        new_byte q b r ∙ ap (λ bs. Some (slice_index bs (q - x.base))) (e y).bytes ∙ ap Some (patched-before x.bytes p.offset from (q - x.base) fits before) ∙ sym (old_byte q b r)
     outside q (inr o) (inr b) (inl r) =
-      let after : p.offset + length from ≤ q - x.base = omega (arith, at) in
-      new_byte q b r ∙ ap (λ bs. Some (slice_index bs (q - x.base))) (e y).bytes ∙ ap Some (patched-after x.bytes p.offset from (q - x.base) fits after) ∙ sym (old_byte q b r)
+        let after : p.offset + length from ≤ q - x.base = omega (arith, at) in
+        new_byte q b r ∙ ap (λ bs. Some (slice_index bs (q - x.base))) (e y).bytes ∙ ap Some (patched-after x.bytes p.offset from (q - x.base) fits after) ∙ sym (old_byte q b r)
+
     inside : (q : ℕ) → a ≤ q → q < a + length from → areas_bytes (set xs p.index y) q ≡ Some (slice_index from (q - a))
     inside q m r =
-      let k_is : q - x.base ≡ p.offset + (q - a) = omega (arith, at) in
-      new_byte q (omega (arith, at)) (omega (arith, at, fits)) ∙ ap (λ bs. Some (slice_index bs (q - x.base))) (e y).bytes
-      ∙ ap (λ i. Some (slice_index (take p.offset x.bytes ++ from ++ drop (p.offset + length from) x.bytes) i)) k_is
-      ∙ ap Some (patched-inside x.bytes p.offset from (q - a) fits (omega arith))
+        let k_is : q - x.base ≡ p.offset + (q - a) = omega (arith, at) in
+        new_byte q (omega (arith, at)) (omega (arith, at, fits)) ∙ ap (λ bs. Some (slice_index bs (q - x.base))) (e y).bytes
+        ∙ ap (λ i. Some (slice_index (take p.offset x.bytes ++ from ++ drop (p.offset + length from) x.bytes) i)) k_is
+        ∙ ap Some (patched-inside x.bytes p.offset from (q - a) fits (omega arith))
 
 -- no area covers an address that has no place
 pub no_place-none : (xs : List Area) (q : ℕ) → HasNoPlace xs q 1 → areas_bytes xs q ≡ None
@@ -136,16 +146,17 @@ place-slice xs a n p d bs l h e = rw (e, n_is) (place-piece xs a n p d (take n (
   where
     b : List ℕ
     b = (get_or xs p.index d).bytes
+
     n_is : p.offset + n - p.offset ≡ n
     n_is = omega arith
 
 pub overwritten : (xs : List Area) (p : Place) (e d : Area) (from bs : List ℕ) → p.index < length xs → bs ≡ take p.offset (get_or xs p.index e).bytes ++ from ++ drop (p.offset + length from) (get_or xs p.index e).bytes → IsPatched (get_or xs p.index d) p.offset from (record { base = (get_or xs p.index e).base; bytes = bs })
 overwritten xs p e d from bs h b =
     let same : get_or xs p.index e ≡ get_or xs p.index d = get_or_default xs p.index e d h in
-    record
-      { base = ap (λ (x : Area). x.base) same
-      ; bytes = b ∙ ap (λ (x : Area). take p.offset x.bytes ++ from ++ drop (p.offset + length from) x.bytes) same
-      }
+    record {
+      base = ap (λ (x : Area). x.base) same;
+      bytes = b ∙ ap (λ (x : Area). take p.offset x.bytes ++ from ++ drop (p.offset + length from) x.bytes) same;
+    }
 
 -- one byte more of a write that goes byte by byte: each byte has a place, since the range is mapped
 pub paste-more : (xs ys zs : List Area) (a k : ℕ) (from : List ℕ) (r : Bool) → mapped (areas_bytes xs) a (length from) ≡ true → areas_bytes ys ≡ write (areas_bytes xs) a (take k from) → k < length from → Pastes ys zs (a + k) (get_or from k 0 ∷ []) r → areas_bytes zs ≡ write (areas_bytes xs) a (take (k + 1) from)

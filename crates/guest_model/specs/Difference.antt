@@ -38,9 +38,9 @@ byte_difference m n = least (λ q. not (same_byte (m q) (n q))) (2 ^ 32)
 -- pc, then x1 to x31 (x0 is 0 in both), then the place in the input, then the break, then the bytes
 unfoldable pub difference : MachineState → MachineState → Option Difference
 difference a b = first_some
-    ( if_differs Pc a.regs.pc b.regs.pc
+    (if_differs Pc a.regs.pc b.regs.pc
     ∷ option_map Register (register_difference a.regs b.regs)
     ∷ if_differs Place a.place b.place
     ∷ if_differs Break a.heap.brk b.heap.brk
     ∷ option_map Byte (byte_difference a.memory b.memory)
-    ∷ [] )
+    ∷ [])

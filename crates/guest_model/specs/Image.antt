@@ -63,11 +63,11 @@ initial_memory bs hs h = λ q.
 -- ---- the image
 
 abbrev pub image_of : List ℕ → List Segment → Image
-image_of bs hs = record
-  { entry = e_entry bs
-  ; memory = initial_memory bs hs (heap_of hs)
-  ; heap = heap_of hs
-  }
+image_of bs hs = record {
+  entry = e_entry bs;
+  memory = initial_memory bs hs (heap_of hs);
+  heap = heap_of hs;
+}
 
 abbrev pub image_unless : Option Fault → List ℕ → Result Image Fault
 image_unless (Some f) bs = Err f

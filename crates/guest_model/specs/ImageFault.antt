@@ -60,8 +60,8 @@ abbrev pub is_bad : ℕ → Segment → Bool
 is_bad file_length s =
     is_load s
     && (nat_lt s.memory_size s.file_size
-        || (nat_lt 0 s.file_size && nat_lt file_length (s.offset + s.file_size))
-        || nat_lt (2 ^ 32) (end_of s))
+    || (nat_lt 0 s.file_size && nat_lt file_length (s.offset + s.file_size))
+    || nat_lt (2 ^ 32) (end_of s))
 
 -- two ranges, each from a first address up to an end, have a common address
 abbrev pub ranges_meet : ℕ → ℕ → ℕ → ℕ → Bool
@@ -90,7 +90,7 @@ is_entry hs a = a % 4 == 0 && (list_any (has_page (a / 4096)) hs || (nat_le stac
 
 abbrev pub header_faults : List ℕ → List (Option Fault)
 header_faults bs =
-    ( fault_if (nat_lt (length bs) 52) Short
+    (fault_if (nat_lt (length bs) 52) Short
     ∷ fault_if (lacks_magic bs) Magic
     ∷ fault_if (not (slice_index bs 4 == 1)) Class
     ∷ fault_if (not (slice_index bs 5 == 1)) ByteOrder
@@ -98,17 +98,17 @@ header_faults bs =
     ∷ fault_if (not (elf.e_type bs == 2)) Kind
     ∷ fault_if (not (elf.e_machine bs == 243)) Machine
     ∷ fault_if (has_bad_table bs) Headers
-    ∷ [] )
+    ∷ [])
 
 abbrev pub segment_faults : ℕ → ℕ → List Segment → List (Option Fault)
 segment_faults file_length entry hs =
-    ( option_map Dynamic (first_place (λ i. is_dynamic (nth hs i)) hs)
+    (option_map Dynamic (first_place (λ i. is_dynamic (nth hs i)) hs)
     ∷ option_map BadSegment (first_place (λ i. is_bad file_length (nth hs i)) hs)
     ∷ option_and_then (λ i. option_map (Overlap i) (first_overlap hs i)) (first_place (λ i. is_some (first_overlap hs i)) hs)
     ∷ option_map StackOverlap (first_place (λ i. overlaps_stack (nth hs i)) hs)
     ∷ fault_if (is_too_large hs) TooLarge
     ∷ fault_if (not (is_entry hs entry)) Entry
-    ∷ [] )
+    ∷ [])
 
 abbrev pub header_fault : List ℕ → Option Fault
 header_fault bs = first_some (header_faults bs)

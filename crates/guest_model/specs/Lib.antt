@@ -10,6 +10,7 @@ pub mod InstructionTable
 pub mod MachineState
 pub mod Place
 pub mod Registers
+pub mod Rows
 pub mod Rv32
 pub mod Segment
 pub mod Service

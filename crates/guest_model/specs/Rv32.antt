@@ -15,11 +15,11 @@ answer_one s = record s { regs = with_result s.regs 10 1 }
 
 -- the machine with this input
 abbrev pub rv32 : List ℕ → Machine MachineState End Difference
-rv32 input = record
-  { step = step false input
-  ; at_fast = at_fast
-  ; at_end = at_end
-  ; answer_one = answer_one
-  ; pc = λ s. s.regs.pc
-  ; difference = difference
-  }
+rv32 input = record {
+  step = step false input;
+  at_fast = at_fast;
+  at_end = at_end;
+  answer_one = answer_one;
+  pc = λ s. s.regs.pc;
+  difference = difference;
+}

@@ -44,13 +44,13 @@ pub record Segment : Type 0 where
 
 -- the header that begins at this place of the file
 abbrev pub segment_at : List ℕ → ℕ → Segment
-segment_at bs i = record
-  { kind = word_at bs i
-  ; offset = word_at bs (i + 4)
-  ; address = word_at bs (i + 8)
-  ; file_size = word_at bs (i + 16)
-  ; memory_size = word_at bs (i + 20)
-  }
+segment_at bs i = record {
+  kind = word_at bs i;
+  offset = word_at bs (i + 4);
+  address = word_at bs (i + 8);
+  file_size = word_at bs (i + 16);
+  memory_size = word_at bs (i + 20);
+}
 
 -- the program header table
 abbrev pub segments : List ℕ → List Segment

@@ -42,20 +42,20 @@ read_outcome s a bs = answer (record s { memory = write s.memory a bs; place = s
 abbrev pub read_service : List ℕ → MachineState → ℕ → ℕ → ℕ → Outcome
 read_service input s descriptor a count =
     if descriptor == 0 then
-      (if cut count == 0 then answer s 0 else
-      (if mapped s.memory a (cut count)
-       then read_outcome s a (input_bytes input s.place (cut count))
-       else answer s bad_address))
+    (if cut count == 0 then answer s 0 else
+    (if mapped s.memory a (cut count)
+    then read_outcome s a (input_bytes input s.place (cut count))
+    else answer s bad_address))
     else answer s bad_descriptor
 
 -- 64, write: to stream 1 or 2
 abbrev pub write_service : MachineState → ℕ → ℕ → ℕ → Outcome
 write_service s stream a count =
     if stream == 1 || stream == 2 then
-      (if cut count == 0 then answer s 0 else
-      (if mapped s.memory a (cut count)
-       then Next (record s { regs = with_result s.regs 10 (cut count) }) stream (bytes_from s.memory a (cut count))
-       else answer s bad_address))
+    (if cut count == 0 then answer s 0 else
+    (if mapped s.memory a (cut count)
+    then Next (record s { regs = with_result s.regs 10 (cut count) }) stream (bytes_from s.memory a (cut count))
+    else answer s bad_address))
     else answer s bad_descriptor
 
 -- 214, brk: the break moves where the address is in the heap or at its end; the answer is the break after that

@@ -7,8 +7,8 @@ mod difference;
 mod end;
 mod flat;
 mod instr;
+pub mod laws;
 mod memory;
-
 mod registers;
 mod state;
 

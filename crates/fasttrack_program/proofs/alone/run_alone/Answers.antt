@@ -10,17 +10,17 @@ use Rattle.fasttrack_program.proofs.alone.run_alone.Goals as goal
 use Rattle.fasttrack_program.proofs.alone.run_alone.Goals.{in-Next, in-Wrote+in_ok-pass_on-in-Wrote}
 
 pub loop-done-init : goal.loop-done-init
-loop-done-init g c = record
-  { so_far = SoFar-first (rv32 c.args.input.now) (flat flat_bytes c.args.state.now) _
-  ; place = c.requires
-  }
+loop-done-init g c = record {
+  so_far = SoFar-first (rv32 c.args.input.now) (flat flat_bytes c.args.state.now) _;
+  place = c.requires;
+}
 
 pub returns-in_err-pass_on-in-Wrote : goal.returns-in_err-pass_on-in-Wrote
 returns-in_err-pass_on-in-Wrote g c =
     let p = err_from_is_err_and c.from_residual.result c.from_residual.ensures.1 in
     rw (p.1, p.2) (SoFar-refuses (rv32 c.args.input.now) (Unit {0}) (flat flat_bytes c.args.state.now) c.loop-done._done c.args.budget (flat flat_bytes c.loop-done.state) (flat flat_bytes c.step.new.state) c.in-Wrote.stream
-      (bytes_from (flat_bytes c.step.new.state.memory) c.in-Wrote.at c.in-Wrote.count) _ _ _ c.in_err-pass_on-in-Wrote.field-0.0
-      c.loop-done.invariant.so_far c.in-Wrote.ensures.means.3 c.loop-done-test.true c.in_err-pass_on-in-Wrote.ensures)
+    (bytes_from (flat_bytes c.step.new.state.memory) c.in-Wrote.at c.in-Wrote.count) _ _ _ c.in_err-pass_on-in-Wrote.field-0.0
+    c.loop-done.invariant.so_far c.in-Wrote.ensures.means.3 c.loop-done-test.true c.in_err-pass_on-in-Wrote.ensures)
 
 pub returns-in-Ends : goal.returns-in-Ends
 returns-in-Ends g c = SoFar-ends (rv32 c.args.input.now) (flat flat_bytes c.args.state.now) c.loop-done._done c.args.budget (flat flat_bytes c.loop-done.state) c.in-Ends.end _ _
@@ -28,16 +28,16 @@ returns-in-Ends g c = SoFar-ends (rv32 c.args.input.now) (flat flat_bytes c.args
 
 pub loop-done-preserved : goal.loop-done-preserved
 loop-done-preserved g c = elim c.match-step.branch [
-  | in-Next w ↦ rw (w.out-is, w.notes-is) (record
-      { so_far = SoFar-quiet (rv32 c.args.input.now) (flat flat_bytes c.args.state.now) c.loop-done._done (flat flat_bytes c.loop-done.state) (flat flat_bytes c.step.new.state) 1 _ _ c.loop-done.invariant.so_far w.in-Next.ensures.means
-      ; place = c.step.ensures.place
-      })
-  | in-Wrote+in_ok-pass_on-in-Wrote w ↦ rw (w.out-is, w.notes-is) (record
-      { so_far = SoFar-wrote (rv32 c.args.input.now) (flat flat_bytes c.args.state.now) c.loop-done._done (flat flat_bytes c.loop-done.state) (flat flat_bytes c.step.new.state) w.in-Wrote.stream
-          (bytes_from (flat_bytes c.step.new.state.memory) w.in-Wrote.at w.in-Wrote.count) _ _ _ c.loop-done.invariant.so_far w.in-Wrote.ensures.means.3 w.in_ok-pass_on-in-Wrote.ensures
-      ; place = c.step.ensures.place
-      })
-  ]
+  | in-Next w ↦ rw (w.out-is, w.notes-is) (record {
+    so_far = SoFar-quiet (rv32 c.args.input.now) (flat flat_bytes c.args.state.now) c.loop-done._done (flat flat_bytes c.loop-done.state) (flat flat_bytes c.step.new.state) 1 _ _ c.loop-done.invariant.so_far w.in-Next.ensures.means;
+    place = c.step.ensures.place;
+  })
+  | in-Wrote+in_ok-pass_on-in-Wrote w ↦ rw (w.out-is, w.notes-is) (record {
+    so_far = SoFar-wrote (rv32 c.args.input.now) (flat flat_bytes c.args.state.now) c.loop-done._done (flat flat_bytes c.loop-done.state) (flat flat_bytes c.step.new.state) w.in-Wrote.stream
+        (bytes_from (flat_bytes c.step.new.state.memory) w.in-Wrote.at w.in-Wrote.count) _ _ _ c.loop-done.invariant.so_far w.in-Wrote.ensures.means.3 w.in_ok-pass_on-in-Wrote.ensures;
+    place = c.step.ensures.place;
+  })
+]
 
 pub returns : goal.returns
 returns g c = SoFar-spent (rv32 c.args.input.now) (flat flat_bytes c.args.state.now) c.loop-done._done c.args.budget (flat flat_bytes c.loop-done.state) _ _ c.loop-done.invariant.so_far (omega arith)

@@ -13,9 +13,9 @@ pub loop-k-init : goal.loop-k-init
 loop-k-init c = record { layout = c.requires.layout; so_far = sym (write-nothing (areas_bytes c.args.areas.now) c.args.a) }
 
 pub loop-k-preserved : goal.loop-k-preserved
-loop-k-preserved c = record
-  { layout = c.paste.ensures.layout
-  ; so_far = paste-more c.args.areas.now c.loop-k.areas c.paste.new.areas c.args.a c.loop-k.k c.args.from.now c.paste.result
+loop-k-preserved c = record {
+  layout = c.paste.ensures.layout;
+  so_far = paste-more c.args.areas.now c.loop-k.areas c.paste.new.areas c.args.a c.loop-k.k c.args.from.now c.paste.result
       (sym c.if-not-mapped_across.ensures.value) c.loop-k.invariant.so_far c.loop-k-test.true
-      (subst (λ bs. Pastes c.loop-k.areas c.paste.new.areas (c.args.a + c.loop-k.k) bs c.paste.result) (one_at c.args.from.now c.loop-k.k c.loop-k-test.true) c.paste.ensures.pastes)
-  }
+      (subst (λ bs. Pastes c.loop-k.areas c.paste.new.areas (c.args.a + c.loop-k.k) bs c.paste.result) (one_at c.args.from.now c.loop-k.k c.loop-k-test.true) c.paste.ensures.pastes);
+}
