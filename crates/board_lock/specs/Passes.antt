@@ -3,8 +3,7 @@ use Rattle.std.specs.Prelude.{◌≡◌, ℕ, ◌+◌, Bool, true, false, List, 
 use Rattle.atomic_table.specs.Seated.{TableId}
 use Rattle.board_lock.specs.declared.known.Stage.{Stage}
 use Rattle.board_lock.specs.declared.known.Stage.TheVariants.{Idle, Waits, Holds}
-use Rattle.board_lock.specs.Entries.{Appends}
-use Rattle.board_lock.specs.Steps.{Continues}
+use Rattle.board_lock.specs.Entries.{Appends, Continues}
 
 -- the lock, its fixed part, the entries seen, the seat number, the least number of the stock, and whether it has the turn
 -- the stock goes up to 2^64 - 2, so at 2^64 - 1 it is empty

@@ -4,7 +4,7 @@ use Rattle.atomic_table.specs.Table.{Me}
 use Rattle.board_lock.specs.declared.known.Known.{Known}
 use Rattle.board_lock.specs.declared.known.Stage.{Stage}
 use Rattle.board_lock.specs.declared.known.Stage.TheVariants.{Idle, Waits, Holds}
-use Rattle.board_lock.specs.Entries.{Extends, Unborn}
+use Rattle.board_lock.specs.Entries.{Continues}
 
 module _ {F I : Type 0} where
   -- the view with these entries seen, at this stage
@@ -31,14 +31,9 @@ module _ {F I : Type 0} where
   passed m m' = m' ≡ (staged m.0 m.0.seen Idle, [])
 
 module _ {F I T : Type 0} (fixed : T → F) (entries : T → List I) (belongs : List I → I → Option ℕ) where
-  -- the value has this fixed part, its entries extend what the seat has seen, and none belongs to a number from `stock` on
-  pub record Continues (f : F) (seen : List I) (seat stock : ℕ) (x : T) : Type 0 where
-    pub fixed_part : fixed x ≡ f
-    pub seen_first : Extends belongs seat seen (entries x)
-    pub stock_free : Unborn belongs stock (entries x)
-
+  -- the value continues what the view has
   abbrev pub Resumes : Known F I → T → Type 0
-  Resumes v x = Continues v.fixed v.seen v.seat v.stock x
+  Resumes v x = Continues fixed entries belongs v.fixed v.seen v.seat v.stock x
 
   -- where the number is the ticket, the slot came with the value; else nothing changed
   abbrev pub looked : Me (Option T) (Known F I) → ℕ → Me (Option T) (Known F I) → Type 0

@@ -5,6 +5,7 @@ mod kept;
 mod known;
 pub mod laws;
 mod lock;
+pub mod marks;
 mod pass;
 mod plays;
 mod steps;

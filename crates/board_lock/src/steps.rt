@@ -87,7 +87,7 @@ pub(crate) fn add_all<T: Kept>(top: &Top<T>, place: &mut Place<T>, value: &T, se
     ensures seat { IsSameSeat place.old place.new }
     ensures entries { place.new.me ≡ (staged place.old.me.0 (T.entries value.now) place.old.me.0.stage, place.old.me.1) }
 {
-    for added in seen..value.length() {
+    for _ in seen..value.length() {
         add_one::<T, Brand>(top, place, value);
     }
 }

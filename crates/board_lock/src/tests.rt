@@ -1,5 +1,6 @@
 ghost use Rattle.std.specs.Prelude.{◌≡◌, ◌≢◌, ◌<◌, [], ◌∷◌, ◌++◌, false, Some, OnOk, OnErr, IfOk, All, ◌+◌, ◌^◌};
 
+use crate::marks::{Marks, append};
 use crate::{Busy, Kept, Pass, Turn, TurnLock};
 use basic_types::NoMemory;
 use std::alloc::Global;
@@ -8,80 +9,18 @@ use std::sync::Wait;
 use std::test::Fail;
 use std::thread::{for_each_mut, join_mut};
 
-/// Pairs of a seat and a number.
-#[derive(Drop)]
-struct Marks {
-    name: u64,
-    marks: Vec<(u64, u64)>,
-}
-
-impl Kept for Marks {
-    type Item = (u64, u64);
-
-    type Fixed = u64;
-
-    ghost fixed = { λ m. m.name };
-
-    ghost entries = { λ m. m.marks.items };
-
-    ghost belongs = { λ _ mark. Some mark.0 };
-
-    fn length(&self) -> u64 {
-        self.marks.len() as u64
-    }
-}
-
-impl Marks {
-    fn new(alloc: Global, name: u64) -> Marks
-        ensures { result.marks.items ≡ [] }
-    {
-        Marks {
-            name,
-            marks: Vec::new(alloc),
-        }
-    }
-
-    fn add(&mut self, seat: u64, number: u64) -> Result<(), NoMemory>
-        ensures ok { OnOk result (self.new.marks.items ≡ self.old.marks.items ++ (seat, number) ∷ []) }
-        ensures err { OnErr result (self.new.marks.items ≡ self.old.marks.items) }
-        ensures name { self.new.name ≡ self.old.name }
-    {
-        self.marks.push((seat, number))?;
-        Ok(())
-    }
-
-    /// Whether the marks of the seat have the numbers below `count`, in their order.
-    fn are_in_order(&self, seat: u64, count: u64) -> bool {
-        let mut next = 0u64;
-        for mark in &self.marks {
-            if mark.0 == seat {
-                if mark.1 != next {
-                    return false;
-                }
-                next = next.wrapping_add(1);
+/// Whether the marks of the seat have the numbers below `count`, in their order.
+fn are_in_order(value: &Marks, seat: u64, count: u64) -> bool {
+    let mut next = 0u64;
+    for mark in &value.marks {
+        if mark.0 == seat {
+            if mark.1 != next {
+                return false;
             }
+            next = next.wrapping_add(1);
         }
-        next == count
     }
-}
-
-/// A turn in which the pass appends a mark of its seat.
-fn append<R: Wait>(
-    rt: &R,
-    lock: &TurnLock<Marks>,
-    pass: &mut Pass<Marks>,
-    number: u64,
-) -> Result<(), NoMemory>
-    requires lock { pass.old.lock ≡ lock.now }
-    requires idle { pass.old.in_turn ≡ false }
-    ensures lock { pass.new.lock ≡ lock.now }
-    ensures idle { pass.new.in_turn ≡ false }
-{
-    let seat = pass.seat();
-    let mut turn = lock.enter(rt, pass);
-    let added = turn.get().add(seat, number);
-    lock.leave(turn, pass);
-    added
+    next == count
 }
 
 /// A turn for each number below `count`. True if all marks were appended.
@@ -122,7 +61,7 @@ fn two_threads_append_in_turns(rt: HostRuntime) -> Result<(), Fail> {
     assert!(rt; one && other);
     let value = closed(&rt, lock, first);
     assert!(rt; value.length() == 200 && value.name == 7);
-    assert!(rt; value.are_in_order(0, 100) && value.are_in_order(1, 100));
+    assert!(rt; are_in_order(&value, 0, 100) && are_in_order(&value, 1, 100));
     Ok(())
 }
 
@@ -161,7 +100,7 @@ fn eight_threads_append_in_turns(rt: HostRuntime) -> Result<(), Fail> {
     let value = closed(&rt, lock, first);
     assert!(rt; value.length() == 8000);
     for seat in 1..9 {
-        assert!(rt; value.are_in_order(seat, 1000), "seat {seat}");
+        assert!(rt; are_in_order(&value, seat, 1000), "seat {seat}");
     }
     Ok(())
 }

@@ -1,7 +1,7 @@
 use Rattle.std.proofs.Common.{◌≡◌, ℕ, List, [], ◌∷◌, ◌++◌, Some, Result, Ok, Err, sym, ap, ◌∙◌, append-nil}
 use Rattle.std.specs.Prelude.{OnOk, OnErr}
 use Rattle.board_lock.specs.Entries.{Appends}
-use Rattle.board_lock.proofs.tests.append.Goals as goal
+use Rattle.board_lock.proofs.marks.append.Goals as goal
 
 some_same : (a b : ℕ) → Some a ≡ Some b → a ≡ b
 some_same a b e = cc
