@@ -11,7 +11,7 @@ use Rattle.atomic_table.proofs.Lists.{at_set, set_here, set_else, set_again, at_
 use Rattle.board_lock.specs.declared.known.Known.{Known}
 use Rattle.board_lock.specs.declared.known.Stage.{Stage}
 use Rattle.board_lock.specs.declared.known.Stage.TheVariants.{Idle, Waits, Holds}
-use Rattle.board_lock.specs.Entries.{Continues, Foreign, Extends, Appends, Unborn}
+use Rattle.board_lock.specs.Entries.{Foreign, Extends, Appends, Unborn}
 use Rattle.board_lock.specs.Rule.{weight, tickets, stock_of, starting, Stands, Fits, AtHome, IsOut, Ruled}
 use Rattle.board_lock.specs.Steps.{staged, giver, given, Resumes, drew, looked, OneMore, passed}
 use Rattle.board_lock.specs.Places.{IsAtRest}

@@ -1,5 +1,6 @@
 ghost use Rattle.std.specs.Prelude.{◌≡◌, ◌≢◌, ◌<◌, [], ◌∷◌, ◌++◌, false, Some, OnOk, OnErr, IfOk, All, ◌+◌, ◌^◌};
 
+use crate::laws::law_of_seats;
 use crate::marks::{Marks, append};
 use crate::{Busy, Kept, Pass, Turn, TurnLock};
 use basic_types::NoMemory;
@@ -43,6 +44,7 @@ fn a_turn_begins_with_what_others_appended(rt: HostRuntime) -> Result<(), Fail> 
     let mut second = lock.split(&mut first)?;
     assert!(rt; append_all(&rt, &lock, &mut first, 3));
     let mut turn = lock.enter(&rt, &mut second);
+    law_of_seats(turn.get());
     let begins = turn.get().marks.as_slice() == [(0, 0), (0, 1), (0, 2)].as_slice();
     lock.leave(turn, &mut second);
     assert!(rt; begins && first.seat() == 0 && second.seat() == 1);
