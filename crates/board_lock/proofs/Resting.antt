@@ -1,13 +1,14 @@
 -- A pass between two calls.
-use Rattle.std.proofs.Common.{◌≡◌, ℕ, true, false, true≢false, List, [], ◌∷◌, ◌++◌, ◌+◌, length, Option, None, refl, sym, ap, ◌∙◌, subst, length-append, arith}
+use Rattle.std.proofs.Common.{◌≡◌, ℕ, true, false, true≢false, List, [], ◌∷◌, ◌++◌, ◌+◌, length, Option, Some, None, refl, sym, ap, ◌∙◌, subst, length-append, arith}
 use Rattle.std.proofs.lemmas.Bool.{false≢true}
-use Rattle.atomic_table.specs.Table.{Me}
+use Rattle.atomic_table.specs.Table.{Me, rest}
 use Rattle.board_lock.specs.declared.known.Known.{Known}
 use Rattle.board_lock.specs.declared.known.Stage.{Stage}
 use Rattle.board_lock.specs.declared.known.Stage.TheVariants.{Idle, Waits, Holds}
 use Rattle.board_lock.specs.Entries.{Appends}
 use Rattle.board_lock.specs.Steps.{staged, OneMore}
 use Rattle.board_lock.specs.Passes.{has_turn, Poised}
+use Rattle.board_lock.specs.Places.{HasTurn}
 use Rattle.board_lock.proofs.Growing.{appends_rest}
 
 module _ {T : Type 0} where
@@ -28,6 +29,10 @@ still_in_turn m m' log n now holds slots =
     let stage : m'.0.stage ≡ Holds n = ap (λ u. u.0.stage) now ∙ holds in
     let empty : m'.1 ≡ (0, None) ∷ [] = ap (λ u. u.1) now ∙ slots in
     λ k. (staged m'.0 m'.0.seen (stage k), empty k)
+
+-- a seat that has the turn still has it after the value was put into its slot
+pub put_in : {F I T : Type 0} (m m' : Me (Option T) (Known F I)) (x : T) → m' ≡ (m.0, (0, Some x) ∷ rest m.1) → (turn : HasTurn m.0 m.0.seen m) → (m'.0.stage ≡ Holds turn.0) × (m'.1 ≡ (0, Some x) ∷ [])
+put_in m m' x put turn = (ap (λ u. u.0.stage) put ∙ ap (λ u. u.0.stage) turn.1, ap (λ u. u.1) put ∙ ap (λ u. (0, Some x) ∷ rest u.1) turn.1)
 
 -- one of the entries of a value was made known, and the others are known by and by
 pub one_more : {F I T : Type 0} (belongs : List I → I → Option ℕ) (first m m' : Me (Option T) (Known F I)) (log : List I) (n : ℕ) → m ≡ (staged first.0 m.0.seen first.0.stage, first.1)

@@ -148,8 +148,8 @@ module _ {F I T : Type 0} (fixed : T → F) (entries : T → List I) (belongs : 
   in_one_turn s r = let c = r.counted in let few = r.few in let le = tickets_le s.views in omega arith
 
   -- the value at home extends what a view has seen
-  resumes : {served drawn : ℕ} {owner : ℕ → ℕ} {known : List I} {homes : Homes} {j count : ℕ} (v : View) (x : T) → Fit served drawn owner known homes j count v → fixed x ≡ f → entries x ≡ known → count < 18446744073709551616
-      → Unborn belongs count known → Resumes fixed entries belongs v x
+  resumes : {served drawn : ℕ} {owner : ℕ → ℕ} {known : List I} {homes : Homes} {j count : ℕ} (v : View) (x : T)
+      → Fit served drawn owner known homes j count v → fixed x ≡ f → entries x ≡ known → count < 18446744073709551616 → Unborn belongs count known → Resumes fixed entries belongs v x
   resumes {j = j} {count = count} v x fits part all few unborn = record {
     fixed_part = part ∙ sym fits.fixed_part;
     seen_first = subst (λ (y : ℕ × List I). Extends belongs y.0 v.seen y.1) (λ k. (sym fits.seat k, sym all k)) fits.list;
@@ -173,7 +173,8 @@ module _ {F I T : Type 0} (fixed : T → F) (entries : T → List I) (belongs : 
       waiting = subst (λ stage. Stands r.served r.drawn r.owner r.known s.homes id stage v.seen) waits fits.stage
 
       Found : Me (Option T) View → ℕ → Type 0
-      Found m' t = (get_or s.words 1 0 ≡ t % 18446744073709551616 → (x : T) × Resumes fixed entries belongs v x × (m' ≡ (staged v (entries x) (Holds t), (0, Some x) ∷ []))) × (get_or s.words 1 0 ≢ t % 18446744073709551616 → m' ≡ m)
+      Found m' t = (get_or s.words 1 0 ≡ t % 18446744073709551616 → (x : T) × Resumes fixed entries belongs v x × (m' ≡ (staged v (entries x) (Holds t), (0, Some x) ∷ [])))
+          × (get_or s.words 1 0 ≢ t % 18446744073709551616 → m' ≡ m)
 
       told : (m' : Me (Option T) View) → Found m' t → looked fixed entries belongs m (get_or s.words 1 0) m'
       told m' found t' waits' = subst (Found m') (waits_same t t' (sym waits ∙ waits')) found
@@ -205,7 +206,13 @@ module _ {F I T : Type 0} (fixed : T → F) (entries : T → List I) (belongs : 
                     (set-get_or s.words 1 0 ∙ r.words)
                     (let c = r.counted in let z = ap weight waits in omega arith)
                     (inr (out, (w, ap (λ k. get_elem? (set s.views id w) k) mine ∙ set_here s.views id w (at_below s.views id v at), ap (λ n. Holds n) (sym is))))
-                    (record { seat = fits.seat; stock = fits.stock; fixed_part = fits.fixed_part; list = subst (λ l. Extends belongs id l r.known) (sym home.3) (extends_all belongs id r.known); stage = (waiting.0, sym is, (let lt = waiting.2 in let e = is in omega arith), out, sym home.3) })
+                    (record {
+                      seat = fits.seat;
+                      stock = fits.stock;
+                      fixed_part = fits.fixed_part;
+                      list = subst (λ l. Extends belongs id l r.known) (sym home.3) (extends_all belongs id r.known);
+                      stage = (waiting.0, sym is, (let lt = waiting.2 in let e = is in omega arith), out, sym home.3);
+                    })
                     (λ j u n e. let y = r.each j u e in refit y y.list (others_wait r.served r.drawn r.owner r.known r.known s.homes (set s.homes 0 none) j u.stage u.seen (λ z. n (z ∙ mine)) y.stage))
                     r.unborn,
                 told (w, (0, Some x) ∷ m.1) ((λ _. (x, resumes v x fits home.2 home.3 r.few r.unborn, λ k. (w, (0, Some x) ∷ empty k))), λ other. absurd (other own)),
@@ -239,7 +246,13 @@ module _ {F I T : Type 0} (fixed : T → F) (entries : T → List I) (belongs : 
             ∙ ap (λ n. r.drawn % 18446744073709551616 ∷ r.served % 18446744073709551616 ∷ n ∷ []) (wraps (length r.known) ∙ ap (λ n. n % 18446744073709551616) (sym (length-append r.known (e ∷ [])))))
             (let c = r.counted in omega arith)
             (inr (held.3, (w, ap (λ k. get_elem? (set s.views id w) k) mine ∙ set_here s.views id w (at_below s.views id v at), holds ∙ ap (λ n. Holds n) held.1)))
-            (record { seat = fits.seat; stock = fits.stock; fixed_part = fits.fixed_part; list = subst (λ l. Extends belongs id l known) longer (extends_all belongs id known); stage = subst (λ stage. Stands r.served r.drawn r.owner known s.homes id stage seen) (sym holds) (held.0, held.1, held.2, held.3, longer) })
+            (record {
+              seat = fits.seat;
+              stock = fits.stock;
+              fixed_part = fits.fixed_part;
+              list = subst (λ l. Extends belongs id l known) longer (extends_all belongs id known);
+              stage = subst (λ stage. Stands r.served r.drawn r.owner known s.homes id stage seen) (sym holds) (held.0, held.1, held.2, held.3, longer);
+            })
             (λ j u n at'. let y = r.each j u at' in refit y (extends_push belongs j u.seen r.known e y.list (foreign j n)) (others_wait r.served r.drawn r.owner r.known known s.homes s.homes j u.stage u.seen (λ z. n (z ∙ mine)) y.stage))
             (unborn_push belongs (length s.views) r.known e r.unborn (λ k le. foreign k (λ z. let below = at_below s.views id v at in omega arith))),
         (e, one.1, one.2, refl),

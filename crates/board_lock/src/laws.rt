@@ -9,7 +9,8 @@ use crate::kept::Kept;
 /// Whatever passes enter, leave and are split, no two passes of one lock have one seat number, and
 /// no seat number is above 2^64 - 2.
 pub fn law_of_seats<T: Kept>(value: &T)
-    ensures { (lock : TableId) (calls : List (Call T.Item)) → AreApart (after_calls (first_pass T.fixed T.entries lock value.now ∷ []) calls) }
+    ensures { (lock : TableId) (calls : List (Call T.Item))
+        → AreApart (after_calls (first_pass T.fixed T.entries lock value.now ∷ []) calls) }
 {
     let _ = value;
 }

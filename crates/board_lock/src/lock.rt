@@ -14,8 +14,8 @@ use std::marker::Model;
 use std::snapshot::Snapshot;
 use std::sync::Wait;
 
-/// A lock that keeps a value, for threads with passes. One pass at a time has the turn, in the order
-/// in which they asked for it. To contracts it is the name of its table.
+/// A lock that keeps a value, for threads with passes. One pass at a time has the turn, in the
+/// order in which they asked for it. To contracts it is the name of its table.
 #[derive(Drop)]
 pub struct TurnLock<T: Kept> {
     table: LockTable<T>,
@@ -44,8 +44,9 @@ pub struct Busy {
 }
 
 impl<T: Kept> TurnLock<T> {
-    /// A lock that keeps the value, and its first pass, which has seen all entries of the value, has
-    /// seat 0 and may give the seats from 1 to 2^64 - 2. Where there is no memory, the value is dropped.
+    /// A lock that keeps the value, and its first pass, which has seen all entries of the value,
+    /// has seat 0 and may give the seats from 1 to 2^64 - 2. Where there is no memory, the value is
+    /// dropped.
     pub fn new(alloc: Global, value: T) -> Result<(TurnLock<T>, Pass<T>), NoMemory>
     where
         T: Drop,
@@ -70,7 +71,8 @@ impl<T: Kept> TurnLock<T> {
         }
     }
 
-    /// Waits for the turn of the pass. The entries of its value extend the pass, which has then seen them all.
+    /// Waits for the turn of the pass. The entries of its value extend the pass, which has then
+    /// seen them all.
     pub fn enter<R: Wait>(&self, rt: &R, pass: &mut Pass<T>) -> Turn<T>
         requires lock { pass.old.lock ≡ self.now }
         requires idle { pass.old.in_turn ≡ false }
@@ -84,8 +86,8 @@ impl<T: Kept> TurnLock<T> {
         Turn { value }
     }
 
-    /// Ends a turn. Entries were only appended to its value, none of another seat, and the fixed part
-    /// was kept. The pass has then seen all entries.
+    /// Ends a turn. Entries were only appended to its value, none of another seat, and the fixed
+    /// part was kept. The pass has then seen all entries.
     pub fn leave(&self, turn: Turn<T>, pass: &mut Pass<T>)
         requires lock { pass.old.lock ≡ self.now }
         requires turn { pass.old.in_turn ≡ true }

@@ -46,7 +46,8 @@ impl Marks {
 
     /// Appends a mark.
     pub fn add(&mut self, seat: u64, number: u64) -> Result<(), NoMemory>
-        ensures ok { OnOk result (self.new.marks.items ≡ self.old.marks.items ++ (seat, number) ∷ []) }
+        ensures ok { OnOk result
+            (self.new.marks.items ≡ self.old.marks.items ++ (seat, number) ∷ []) }
         ensures err { OnErr result (self.new.marks.items ≡ self.old.marks.items) }
         ensures name { self.new.name ≡ self.old.name }
     {
@@ -65,7 +66,8 @@ pub fn append<R: Wait>(
     requires lock { pass.old.lock ≡ lock.now }
     requires idle { pass.old.in_turn ≡ false }
     ensures pass { pass.new ≡ record pass.old { seen = pass.new.seen } }
-    ensures ok { OnOk result ((others : List (ℕ × ℕ)) × (pass.new.seen ≡ pass.old.seen ++ others ++ (pass.old.seat, number) ∷ [])) }
+    ensures ok { OnOk result ((others : List (ℕ × ℕ))
+        × (pass.new.seen ≡ pass.old.seen ++ others ++ (pass.old.seat, number) ∷ [])) }
 {
     let seat = pass.seat();
     let mut turn = lock.enter(rt, pass);

@@ -24,9 +24,18 @@ impl<T: Kept> Model for Pass<T> {
 
     ghost Value = { Held T.Fixed T.Item };
 
-    ghost view = { λ p. let v = p.place.me.0 in record { lock = p.place.table_id; fixed = v.fixed; seen = v.seen; seat = v.seat; stock = v.stock; in_turn = has_turn v.stage } };
+    ghost view = { λ p. let v = p.place.me.0 in record {
+      lock = p.place.table_id;
+      fixed = v.fixed;
+      seen = v.seen;
+      seat = v.seat;
+      stock = v.stock;
+      in_turn = has_turn v.stage;
+    } };
 
-    ghost invariant = { λ p. let v = p.place.me.0 in (p.number ≡ v.seat) × (p.stock ≡ v.stock) × (p.count ≡ length v.seen) × Poised v.stage p.place.me.1 };
+    ghost invariant = { λ p. let v = p.place.me.0 in
+        (p.number ≡ v.seat) × (p.stock ≡ v.stock) × (p.count ≡ length v.seen)
+        × Poised v.stage p.place.me.1 };
 }
 
 impl<T: Kept> Pass<T> {

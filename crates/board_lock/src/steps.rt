@@ -85,7 +85,8 @@ pub(crate) fn add_all<T: Kept>(top: &Top<T>, place: &mut Place<T>, value: &T, se
     requires appends { Appends T.belongs place.old.me.0.seat place.old.me.0.seen (T.entries value.now) }
     requires seen { seen ≡ length place.old.me.0.seen }
     ensures seat { IsSameSeat place.old place.new }
-    ensures entries { place.new.me ≡ (staged place.old.me.0 (T.entries value.now) place.old.me.0.stage, place.old.me.1) }
+    ensures entries { place.new.me
+        ≡ (staged place.old.me.0 (T.entries value.now) place.old.me.0.stage, place.old.me.1) }
 {
     for _ in seen..value.length() {
         add_one::<T, Brand>(top, place, value);
@@ -115,8 +116,10 @@ pub(crate) fn give<T: Kept>(top: &Top<T>, place: &mut Place<T>) -> Place<T>
     requires table { IsLockTable top.now.table_id × (place.old.table_id ≡ top.now.table_id) }
     requires idle { IsAtRest place.old.me }
     requires stock { place.old.me.0.stock < 2 ^ 64 - 1 }
-    ensures giver { IsSameSeat place.old place.new × (place.new.me ≡ (giver place.old.me.0, [])) }
-    ensures given { (result.table_id ≡ place.old.table_id) × (result.me ≡ (given place.old.me.0, [])) }
+    ensures giver { IsSameSeat place.old place.new
+        × (place.new.me ≡ (giver place.old.me.0, [])) }
+    ensures given { (result.table_id ≡ place.old.table_id)
+        × (result.me ≡ (given place.old.me.0, [])) }
 {
     top.split_seat::<Give>(place)
 }

@@ -78,7 +78,8 @@ fn passes(
     requires idle { first.old.in_turn ≡ false }
     requires stock { first.old.stock + count < 2 ^ 64 }
     ensures first { (first.new.lock ≡ lock.now) × (first.new.in_turn ≡ false) }
-    ensures passes { IfOk result (λ made. All (λ p. (p.lock ≡ lock.now) × (p.in_turn ≡ false)) made.items) }
+    ensures passes { IfOk result
+        (λ made. All (λ p. (p.lock ≡ lock.now) × (p.in_turn ≡ false)) made.items) }
 {
     let mut made = Vec::new(alloc);
     for _ in 0..count {
