@@ -1,2 +1,3 @@
 pub mod Facts
 pub mod Sees
+pub mod Sound
