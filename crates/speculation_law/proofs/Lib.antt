@@ -3,3 +3,7 @@ pub mod Least
 pub mod Verdicts
 pub mod Walks
 pub mod Pieces
+pub mod Names
+pub mod Dues
+pub mod Running
+pub mod Chains

@@ -15,10 +15,14 @@ abbrev pub Numbered : ℕ → ℕ → List Piece → Type 0
 Numbered low high [] = Unit {0}
 Numbered low high (p ∷ ps) = (low < p.number) × (p.number ≤ high) × Numbered low high ps
 
+abbrev pub one_if : Bool → ℕ
+one_if true = 1
+one_if false = 0
+
 -- how many loans of this name were not dropped
 abbrev pub count_lent : Name → List OpenLoan → ℕ
 count_lent n [] = 0
-count_lent n (l ∷ ls) = (if name_eq n l.name && is_none l.dropped then 1 else 0) + count_lent n ls
+count_lent n (l ∷ ls) = one_if (name_eq n l.name && is_none l.dropped) + count_lent n ls
 
 -- what holds once the core has a finish
 pub record Final {S E D : Type 0} (m : Machine S E D) (b : Settings) (start : S) (c : Core S E D) (f : Finished E) : Type 0 where
