@@ -21,7 +21,8 @@ module _ {S E D : Type 0} (m : Machine S E D) where
   pub segment-first : (s : S) → SegmentTrack m s (segment_of s)
   segment-first s = record { kind = refl; start = refl; least = none-below Segment s }
 
-  whole-first : (s : S) (t : Track S) → t.own ≡ 0 → t.held ≡ [] → Whole m s t
+  -- a new track holds all its pieces
+  pub whole-first : (s : S) (t : Track S) → t.own ≡ 0 → t.held ≡ [] → Whole m s t
   unfolding pieces
   whole-first s t p q = record { held = q ∙ sym (ap (pieces m (fresh s) 0) p) }
 
@@ -51,9 +52,6 @@ module _ {S E D : Type 0} (m : Machine S E D) where
   -- Back
 
   module _ (b : Settings) where
-
-    pub back-region : ℕ → Region S → Region S
-    back-region number r = if nat_eq number r.number then (record r { normal = run_on m r.normal (slice m b r.normal) }) else r
 
     tail-back_by : (number : ℕ) (s : S) (part : Part S) (segment : Option Between) (r : Region S) (rs : List (Region S)) (lead : Track S) (t : Bool)
         → Tail m s part segment (r ∷ rs) lead → Tail m r.start r.part r.segment (back_normals m b number rs) lead

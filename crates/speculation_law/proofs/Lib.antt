@@ -7,3 +7,5 @@ pub mod Names
 pub mod Dues
 pub mod Running
 pub mod Chains
+pub mod Fronts
+pub mod Judging

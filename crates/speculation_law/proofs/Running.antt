@@ -17,18 +17,18 @@ use Rattle.speculation_law.proofs.Least.{first-below}
 module _ {S E D : Type 0} (m : Machine S E D) (b : Settings) where
 
   -- a track without a stop met nothing, and has not taken the whole budget
-  pub record Unstopped_here (t : Track S) : Type 0 where
+  pub record MetNothing (t : Track S) : Type 0 where
     pub met : NoStop m t.kind t.start t.own
     pub unspent : nat_eq t.own b.budget ≡ false
 
-  pub has_stop-false : (t : Track S) → has_stop m b t ≡ false → Unstopped_here t
+  pub has_stop-false : (t : Track S) → has_stop m b t ≡ false → MetNothing t
   has_stop-false t h =
       let first = or-false (at_boundary m t) (is_some (track_point m t).end || nat_eq t.own b.budget) h in
       let second = or-false (is_some (track_point m t).end) (nat_eq t.own b.budget) first.two in
       record { met = record { going = is_some-none (track_point m t).end second.one; inside = first.one }; unspent = second.two }
 
   -- nor before the slice is over
-  pub slice-unstopped : (t : Track S) (k : ℕ) → k < slice m b t → Unstopped_here (run_on m t k)
+  pub slice-unstopped : (t : Track S) (k : ℕ) → k < slice m b t → MetNothing (run_on m t k)
   unfolding slice
   slice-unstopped t k less =
       has_stop-false (run_on m t k)
