@@ -5,7 +5,7 @@ use Rattle.speculation.specs.declared.tracks.Kind.TheVariants.{Normal, Fast, Seg
 use Rattle.speculation.specs.declared.history.Settings.{Settings}
 use Rattle.speculation.specs.Machine.{Machine}
 use Rattle.speculation.specs.Run.{Piece, Point, fresh, go, pieces}
-use Rattle.speculation.specs.Tracks.{point, boundary}
+use Rattle.speculation.specs.Tracks.{point, meets, boundary}
 use Rattle.speculation.specs.Core.{Track, Part, Open, Closed, Between, Region, front_of, track_point, at_boundary}
 use Rattle.speculation.specs.Effects.{segment_of, region_of, crossed, forked}
 use Rattle.speculation.specs.Events.{run_on, slice, back_normals, back_regions, back_lead, released_regions, released_lead, left_over}
@@ -135,7 +135,7 @@ module _ {S E D : Type 0} (m : Machine S E D) where
   meets-call : (own : ℕ) (s : S) → boundary m Segment s own ≡ true → m.at_fast (go m (fresh s) own).state ≡ true
   meets-call own s here = meets-by (go m (fresh s) own).state (go m (fresh s) own).end here
     where
-      meets-by : (x : S) (o : Option E) → Rattle.speculation.specs.Tracks.meets m Segment own x o ≡ true → m.at_fast x ≡ true
+      meets-by : (x : S) (o : Option E) → meets m Segment own x o ≡ true → m.at_fast x ≡ true
       meets-by x (Some e) h = absurd (cc)
       meets-by x None h = h
 
@@ -144,7 +144,7 @@ module _ {S E D : Type 0} (m : Machine S E D) where
   segment-call s t h here =
       subst (λ (q : Point S E). m.at_fast q.state ≡ true) (sym (track_point-at Segment s t h.kind h.start)) (meets-call t.own s (sym (boundary-at Segment s t h.kind h.start) ∙ here))
 
-  segment-going : (s : S) (t : Track S) → SegmentTrack m s t → at_boundary m t ≡ true → (go m (fresh s) t.own).end ≡ None
+  pub segment-going : (s : S) (t : Track S) → SegmentTrack m s t → at_boundary m t ≡ true → (go m (fresh s) t.own).end ≡ None
   segment-going s t h here = boundary-going m Segment s t.own (sym (boundary-at Segment s t h.kind h.start) ∙ here)
 
   lead-forked : (s : S) (part : Part S) (lead : Track S) (number : ℕ) → LeadAfter m s part lead → lead.kind ≡ Segment → at_boundary m lead ≡ true

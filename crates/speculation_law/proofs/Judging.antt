@@ -6,7 +6,7 @@ use Rattle.speculation.specs.declared.tracks.Kind.TheVariants.{Normal, Fast, Seg
 use Rattle.speculation.specs.declared.history.Settings.{Settings}
 use Rattle.speculation.specs.Machine.{Machine}
 use Rattle.speculation.specs.Run.{Mark, Piece, Point, marks, marks_upto, fresh, go, pieces, out}
-use Rattle.speculation.specs.Tracks.{point, boundary}
+use Rattle.speculation.specs.Tracks.{point, meets, boundary}
 use Rattle.speculation.specs.Verdicts.{Verdict, Kept, Differs, Stopped, Late, Judged, Seen, Running, Ended, Met, judge, compared, verdict}
 use Rattle.speculation.specs.Ledger.{Row, row_at, ledger, ledger_from}
 use Rattle.speculation.specs.Core.{Core, Track, Part, Open, Closed, Between, Region, Finished, over, front, front_of, front_home, lead_home, lead_name, at_home, is_lent, is_named, track_point, at_boundary, is_kind}
@@ -18,6 +18,7 @@ use Rattle.speculation_law.specs.Facts.{NoStop, Unstopped, NormalTrack, SegmentT
 use Rattle.speculation_law.specs.Sees.{Sees}
 use Rattle.speculation_law.specs.Sound.{Numbered, count_lent, Final, Good}
 use Rattle.speculation_law.proofs.Options.{not-false, and-intro}
+use Rattle.speculation_law.proofs.Names.{count_lent-drop_loans}
 use Rattle.speculation_law.proofs.Verdicts.{boundary-going, judge-verdict}
 use Rattle.speculation_law.proofs.Walks.{fresh-point, ledger_from-region, ledger_from-segment}
 use Rattle.speculation_law.proofs.Pieces.{marks_upto-pieces, out-min, out-zero}
@@ -120,7 +121,7 @@ module _ {S E D : Type 0} (m : Machine S E D) where
   normal-pos : (s : S) (n : ℕ) → boundary m Normal s n ≡ true → 0 < n
   normal-pos s zero h = absurd (let e : boundary m Normal s zero ≡ false = inside-zero s (go m (fresh s) zero).end in cc)
     where
-      inside-zero : (s : S) (o : Option E) → Rattle.speculation.specs.Tracks.meets m Normal zero (go m (fresh s) zero).state o ≡ false
+      inside-zero : (s : S) (o : Option E) → meets m Normal zero (go m (fresh s) zero).state o ≡ false
       inside-zero s (Some e) = refl
       inside-zero s None = refl
   normal-pos s (suc n) h = omega arith
@@ -187,7 +188,7 @@ module _ {S E D : Type 0} (m : Machine S E D) (b : Settings) (start : S) where
         numbered = shows.numbered;
         rows = settled.rows_so_far;
         waiting = λ fast lent. absurd (let other : Segment ≡ Fast = fast in cc);
-        once = λ n. (let dropped = Rattle.speculation_law.proofs.Names.count_lent-drop_loans n (length c.rows) c.loans in omega arith);
+        once = λ n. (let dropped = count_lent-drop_loans n (length c.rows) c.loans in omega arith);
         lost = g.lost;
         final = λ f is. absurd (unfinished f is);
       }

@@ -9,3 +9,6 @@ pub mod Running
 pub mod Chains
 pub mod Fronts
 pub mod Judging
+pub mod Leading
+pub mod Finishing
+pub mod Lending
