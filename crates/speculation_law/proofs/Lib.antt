@@ -12,3 +12,5 @@ pub mod Judging
 pub mod Leading
 pub mod Finishing
 pub mod Lending
+pub mod Events
+pub mod Histories
