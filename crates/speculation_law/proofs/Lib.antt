@@ -14,3 +14,4 @@ pub mod Finishing
 pub mod Lending
 pub mod Events
 pub mod Histories
+pub mod ToyExact

@@ -3,3 +3,5 @@
 //!
 //! The proofs are of any machine and stand in `proofs/`. The functions here state them at the toy machine.
 #![tactic(auto)]
+
+pub mod laws;
