@@ -15,3 +15,4 @@ pub mod Lending
 pub mod Events
 pub mod Histories
 pub mod ToyExact
+pub mod FindLoan

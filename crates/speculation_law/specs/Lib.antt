@@ -1,3 +1,4 @@
 pub mod Facts
 pub mod Sees
 pub mod Sound
+pub mod Naming
