@@ -25,7 +25,8 @@ use Rattle.speculation_law.proofs.Fronts.{go-from, unfinished-unspent, unfinishe
 use Rattle.speculation_law.proofs.Judging.{KeptPart, sees-tail, judge-kept, kept-part, lead-inside, good-dropped, good-kept}
 use Rattle.speculation_law.proofs.Leading.{good-crossed, good-forked}
 use Rattle.speculation_law.proofs.Finishing.{final-due}
-use Rattle.speculation_law.proofs.Lending.{unfinished, SomeLendable, lendable-true, good-lent, good-back, good-gone, good-halted, good-released}
+use Rattle.speculation_law.proofs.Happens.{Happens, Lends, Returns, Vanishes, Releases, Halts, Does, event-happens}
+use Rattle.speculation_law.proofs.Lending.{unfinished, good-lent, good-back, good-gone, good-halted, good-released}
 
 module _ {S E D : Type 0} (m : Machine S E D) (b : Settings) (start : S) where
 
@@ -100,44 +101,15 @@ module _ {S E D : Type 0} (m : Machine S E D) (b : Settings) (start : S) where
   good-due c (Judging v) exact g h = good-judged_by c v v.judged.verdict exact refl (judges-due c v g h)
   good-due c Forking exact g h = (let chosen = due-forking m b c h in good-forked m b start c g (unfinished c chosen.live) chosen.unfinished (fork_test-true m b c chosen.forks))
 
-  good-done : (c new : Core S E D) (x : Entry) (o : Option (Due S E D)) → Exact m start → Good m b start c → due m b c ≡ o → due_done m b c x o ≡ Some new → Good m b start new
-  good-done c new x None exact g is h = absurd (cc)
-  good-done c new x (Some d) exact g is h =
-      let passed = some_if-some (is_entry_of c d x) (effect m b c d) new h in
-      subst (λ (k : Core S E D). Good m b start k) passed.is (good-due c d exact g is)
-
-  good-back_of : (c new : Core S E D) (n : Name) (count : ℕ) (l : Option OpenLoan) (t : Option (Track S)) → Good m b start c → find_loan n c.loans ≡ l → find_track c n ≡ t
-      → back_of m b c n count l t ≡ Some new → Good m b start new
-  good-back_of c new n count None t g loan found h = absurd (cc)
-  good-back_of c new n count (Some l) None g loan found h = absurd (cc)
-  good-back_of c new n count (Some l) (Some t) g loan found h =
-      let passed = some_if-some (is_none l.dropped && (not (over c) && nat_eq count (slice m b t)))
-            (record c { regions = back_regions m b n.normal n.region c.regions; lead = back_lead m b n.normal c.lead; loans = end_loan n c.loans }) new h in
-      let first = and-true (is_none l.dropped) (not (over c) && nat_eq count (slice m b t)) passed.passes in
-      let second = and-true (not (over c)) (nat_eq count (slice m b t)) first.two in
-      subst (λ (k : Core S E D). Good m b start k) passed.is (good-back m b start c n l t g (not-true (over c) second.one) loan (is_none-none l.dropped first.one) found)
-
-  good-gone_of : (c new : Core S E D) (n : Name) (l : Option OpenLoan) → Good m b start c → find_loan n c.loans ≡ l → gone_of c n l ≡ Some new → Good m b start new
-  good-gone_of c new n None g loan h = absurd (cc)
-  good-gone_of c new n (Some l) g loan h = (let is : gone_live c n l.dropped ≡ new = cc in subst (λ (k : Core S E D). Good m b start k) is (good-gone m b start c n l g loan))
+  good-happens : (c new : Core S E D) (x : Entry) → Exact m start → Good m b start c → Happens m b c new x → Good m b start new
+  good-happens c new x exact g (Lends seat n t entry can is) = subst (λ (k : Core S E D). Good m b start k) is (good-lent m b start c n seat t g can)
+  good-happens c new x exact g (Returns n count l t entry live loan undropped found counted is) =
+      subst (λ (k : Core S E D). Good m b start k) is (good-back m b start c n l t g live loan undropped found)
+  good-happens c new x exact g (Vanishes n l entry loan is) = subst (λ (k : Core S E D). Good m b start k) is (good-gone m b start c n l g loan)
+  good-happens c new x exact g (Releases count entry some counted is) = subst (λ (k : Core S E D). Good m b start k) is (good-released m b start c g)
+  good-happens c new x exact g (Halts seat entry live is) = subst (λ (k : Core S E D). Good m b start k) is (good-halted m b start c g live)
+  good-happens c new x exact g (Does d due_is entry is) = subst (λ (k : Core S E D). Good m b start k) is (good-due c d exact g due_is)
 
   -- each entry that is allowed
   pub good-event : (c new : Core S E D) (x : Entry) → Exact m start → Good m b start c → event m b c x ≡ Some new → Good m b start new
-  unfolding event
-  good-event c new (Lend seat n) exact g h =
-      let passed = some_if-some (lendable m b c n) (record c { loans = c.loans ++ (record { seat = seat; name = n; dropped = None } ∷ []) }) new h in
-      let can = lendable-true m b c n passed.passes in
-      subst (λ (k : Core S E D). Good m b start k) passed.is (good-lent m b start c n seat can.track g can.is)
-  good-event c new (Back n count) exact g h = good-back_of c new n count (find_loan n c.loans) (find_track c n) g refl refl h
-  good-event c new (Gone n) exact g h = good-gone_of c new n (find_loan n c.loans) g refl h
-  good-event c new (Fork n) exact g h = good-done c new (Fork n) (due m b c) exact g refl h
-  good-event c new (Cross n) exact g h = good-done c new (Cross n) (due m b c) exact g refl h
-  good-event c new (Keep row) exact g h = good-done c new (Keep row) (due m b c) exact g refl h
-  good-event c new (Discard row) exact g h = good-done c new (Discard row) (due m b c) exact g refl h
-  good-event c new (Release count) exact g h =
-      let passed = some_if-some (nat_lt 0 count && nat_eq count (length (verified b c))) (released_core b c) new h in
-      subst (λ (k : Core S E D). Good m b start k) passed.is (good-released m b start c g)
-  good-event c new Finish exact g h = good-done c new Finish (due m b c) exact g refl h
-  good-event c new (Halt seat) exact g h =
-      let passed = some_if-some (not (over c)) (record c { halted = true }) new h in
-      subst (λ (k : Core S E D). Good m b start k) passed.is (good-halted m b start c g (not-true (over c) passed.passes))
+  good-event c new x exact g h = good-happens c new x exact g (event-happens m b c new x h)

@@ -118,7 +118,8 @@ module _ {S E D : Type 0} (m : Machine S E D) where
   lead-inside c lost uncrossed waiting kind =
       lead-inside_by c (is_lent (lead_name c) c.loans) (at_boundary m c.lead) refl refl lost uncrossed kind (waiting kind)
 
-  normal-pos : (s : S) (n : ℕ) → boundary m Normal s n ≡ true → 0 < n
+  -- an original closes its region after at least one instruction
+  pub normal-pos : (s : S) (n : ℕ) → boundary m Normal s n ≡ true → 0 < n
   normal-pos s zero h = absurd (let e : boundary m Normal s zero ≡ false = inside-zero s (go m (fresh s) zero).end in cc)
     where
       inside-zero : (s : S) (o : Option E) → meets m Normal zero (go m (fresh s) zero).state o ≡ false

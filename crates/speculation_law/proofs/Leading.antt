@@ -111,7 +111,8 @@ module _ {S E D : Type 0} (m : Machine S E D) (b : Settings) (start : S) where
   lead-front : (c : Core S E D) → c.regions ≡ [] → front c ≡ c.lead
   lead-front c h = ap (λ rs. front_of rs c.lead) h
 
-  lead-within : (c : Core S E D) → finish_test m b c.base (front_home c) (front c) ≡ None → lead_home c ≡ true → at_boundary m c.lead ≡ true → c.regions ≡ [] → c.lead.own ≤ b.budget - c.base
+  -- a lead at home that is the front is within the budget
+  pub lead-within : (c : Core S E D) → finish_test m b c.base (front_home c) (front c) ≡ None → lead_home c ≡ true → at_boundary m c.lead ≡ true → c.regions ≡ [] → c.lead.own ≤ b.budget - c.base
   lead-within c none home here empty =
       let test : finish_test m b c.base (lead_home c) c.lead ≡ None
           = sym (ap (λ rs. finish_test m b c.base (at_home c (front_name c rs)) (front_of rs c.lead)) empty) ∙ none in

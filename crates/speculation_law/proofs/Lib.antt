@@ -12,7 +12,11 @@ pub mod Judging
 pub mod Leading
 pub mod Finishing
 pub mod Lending
+pub mod Happens
 pub mod Events
 pub mod Histories
 pub mod ToyExact
 pub mod FindLoan
+pub mod LiveTracks
+pub mod Naming
+pub mod Bounds
