@@ -20,3 +20,7 @@ pub mod FindLoan
 pub mod LiveTracks
 pub mod Naming
 pub mod Bounds
+pub mod Soundness
+pub mod Totals
+pub mod SerialSteps
+pub mod Fates

@@ -110,7 +110,7 @@ module _ {S E D : Type 0} (m : Machine S E D) (b : Settings) where
   rows-more : (rows : List (Row D)) (r : Row D) (row : ℕ) → row < length rows → row < length (rows ++ (r ∷ []))
   rows-more rows r row h = (let l = length-append rows (r ∷ []) in omega arith)
 
-  front-home_at : (c : Core S E D) (r : Region S) (rs : List (Region S)) → c.regions ≡ r ∷ rs → front_home c ≡ true → at_home c (normal_name c r) ≡ true
+  pub front-home_at : (c : Core S E D) (r : Region S) (rs : List (Region S)) → c.regions ≡ r ∷ rs → front_home c ≡ true → at_home c (normal_name c r) ≡ true
   front-home_at c r rs is home = sym (ap (λ xs. at_home c (front_name c xs)) is) ∙ home
 
   -- the oldest region's judgement

@@ -2,3 +2,5 @@ pub mod Facts
 pub mod Sees
 pub mod Sound
 pub mod Naming
+pub mod Totals
+pub mod Fates
