@@ -24,3 +24,4 @@ pub mod Soundness
 pub mod Totals
 pub mod SerialSteps
 pub mod Fates
+pub mod Weights
