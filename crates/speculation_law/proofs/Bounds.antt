@@ -33,7 +33,7 @@ module _ {S : Type 0} where
   within-crossed budget k s (r ∷ []) le h = record { normal = h.normal; part = le; segment = h.segment; rest = tt }
   within-crossed budget k s (r ∷ (r2 ∷ rs)) le h = record { normal = h.normal; part = h.part; segment = h.segment; rest = within-crossed budget k s (r2 ∷ rs) le h.rest }
 
-  length-crossed : (k : ℕ) (s : S) (rs : List (Region S)) → length (crossed rs k s) ≡ length rs
+  pub length-crossed : (k : ℕ) (s : S) (rs : List (Region S)) → length (crossed rs k s) ≡ length rs
   length-crossed k s [] = refl
   length-crossed k s (r ∷ []) = refl
   length-crossed k s (r ∷ (r2 ∷ rs)) = ap suc (length-crossed k s (r2 ∷ rs))
@@ -43,7 +43,7 @@ module _ {S : Type 0} where
   within-forked budget number g s (r ∷ []) le h = record { normal = h.normal; part = h.part; segment = le; rest = record { normal = omega arith; part = tt; segment = omega arith; rest = tt } }
   within-forked budget number g s (r ∷ (r2 ∷ rs)) le h = record { normal = h.normal; part = h.part; segment = h.segment; rest = within-forked budget number g s (r2 ∷ rs) le h.rest }
 
-  length-forked : (g : Between) (new : Region S) (rs : List (Region S)) → length (forked rs g new) ≡ suc (length rs)
+  pub length-forked : (g : Between) (new : Region S) (rs : List (Region S)) → length (forked rs g new) ≡ suc (length rs)
   length-forked g new [] = refl
   length-forked g new (r ∷ []) = refl
   length-forked g new (r ∷ (r2 ∷ rs)) = ap suc (length-forked g new (r2 ∷ rs))
@@ -52,7 +52,7 @@ module _ {S : Type 0} where
   within-released budget limit [] h = tt
   within-released budget limit (r ∷ rs) h = record { normal = h.normal; part = h.part; segment = h.segment; rest = h.rest }
 
-  length-released : (limit : ℕ) (rs : List (Region S)) → length (released_regions limit rs) ≡ length rs
+  pub length-released : (limit : ℕ) (rs : List (Region S)) → length (released_regions limit rs) ≡ length rs
   length-released limit [] = refl
   length-released limit (r ∷ rs) = refl
 
@@ -82,6 +82,10 @@ module _ {S E D : Type 0} (m : Machine S E D) (b : Settings) where
   length-normals : (number : ℕ) (rs : List (Region S)) → length (back_normals m b number rs) ≡ length rs
   length-normals number [] = refl
   length-normals number (r ∷ rs) = length-back_by number r rs (nat_eq number r.number) (length-normals number rs)
+
+  pub length-back : (normal : Bool) (number : ℕ) (rs : List (Region S)) → length (back_regions m b normal number rs) ≡ length rs
+  length-back true number rs = length-normals number rs
+  length-back false number rs = refl
 
   bounded-back_by : (c : Core S E D) (n : Name) (normal : Bool) → n.normal ≡ normal → Bounded b c
       → Bounded b (record c { regions = back_regions m b normal n.region c.regions; lead = back_lead m b normal c.lead; loans = (back_core m b c n).loans })

@@ -115,7 +115,7 @@ module _ {S E D : Type 0} (m : Machine S E D) (b : Settings) (start : S) where
       leb-false b.budget base (finish_by-unspent b.budget (base + t.own) (nat_le b.budget base) home (track_point m t).end
         (nat_le t.own (b.budget - base)) (nat_le (b.budget - base) t.own) (is_kind t.kind Normal && at_boundary m t) h)
 
-  unfinished-case : (base : ℕ) (home : Bool) (t : Track S) → finish_test m b base home t ≡ None → home ≡ true → (track_point m t).end ≡ None
+  pub unfinished-case : (base : ℕ) (home : Bool) (t : Track S) → finish_test m b base home t ≡ None → home ≡ true → (track_point m t).end ≡ None
       → Unfinished (nat_le t.own (b.budget - base)) (nat_le (b.budget - base) t.own) (is_kind t.kind Normal && at_boundary m t)
   unfinished-case base home t h is_home going =
       let spent : nat_le b.budget base ≡ false = finish_by-unspent b.budget (base + t.own) (nat_le b.budget base) home (track_point m t).end

@@ -29,7 +29,7 @@ use Rattle.speculation_law.proofs.Fronts.{Shows, go-from, shows-good, shows-whol
 
 module _ {S E D : Type 0} (m : Machine S E D) where
 
-  tail-open : (s : S) (segment : Option Between) (rs : List (Region S)) (lead : Track S) → Tail m s Open segment rs lead → FastTrack m s lead
+  pub tail-open : (s : S) (segment : Option Between) (rs : List (Region S)) (lead : Track S) → Tail m s Open segment rs lead → FastTrack m s lead
   tail-open s segment [] lead h = h.lead
   tail-open s segment (r ∷ rs) lead h = absurd h.link
 

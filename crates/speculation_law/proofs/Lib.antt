@@ -25,3 +25,6 @@ pub mod Totals
 pub mod SerialSteps
 pub mod Fates
 pub mod Weights
+pub mod SerialRounds
+pub mod Progress
+pub mod SerialEnds

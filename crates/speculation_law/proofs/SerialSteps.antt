@@ -88,32 +88,45 @@ module _ {S E D : Type 0} (m : Machine S E D) (b : Settings) where
   first_lendable-true c n [] h = first-by c n (lead_name c) None (lendable m b c (lead_name c)) refl h (λ none. absurd (cc))
   first_lendable-true c n (r ∷ rs) h = first-by c n (normal_name c r) (first_lendable m b c rs) (lendable m b c (normal_name c r)) refl h (first_lendable-true c n rs)
 
-  lend-and-back : (c : Core S E D) (n : Name) → Named c → SomeLendable m b c n → lendable m b c n ≡ true → Allowed m b c (Lend 0 n ∷ (Back n (slice_of m b (find_track c n)) ∷ []))
+  -- what a round of the serial history does
+  pub data Round (c : Core S E D) (xs : List Entry) : Type 0 where
+    DueRound : (d : Due S E D) → due m b c ≡ Some d → core_run m b (Some c) xs ≡ Some (effect m b c d) → Round c xs
+    ReleaseRound : nat_lt 0 (length (verified b c)) ≡ true → core_run m b (Some c) xs ≡ Some (released_core b c) → Round c xs
+    LendRound : (n : Name) (t : Track S) → Lendable m b c n t → core_run m b (Some c) xs ≡ Some (back_core m b (lent_core c 0 n) n) → Round c xs
+
+  lend-and-back : (c : Core S E D) (n : Name) → Named c → SomeLendable m b c n → lendable m b c n ≡ true → Round c (Lend 0 n ∷ (Back n (slice_of m b (find_track c n)) ∷ []))
   lend-and-back c n named can lends =
       let count : slice_of m b (find_track c n) ≡ slice m b can.track = ap (slice_of m b) can.is.found in
-      record {
-        new = back_core m b (lent_core c 0 n) n;
-        leads = ap (λ k. core_run m b (Some c) (Lend 0 n ∷ (Back n k ∷ []))) count
-          ∙ run-two c (lent_core c 0 n) (back_core m b (lent_core c 0 n) n) (Lend 0 n) (Back n (slice m b can.track)) (event-lend c 0 n lends) (event-back c 0 n can.track named can.is) }
+      LendRound n can.track can.is (ap (λ k. core_run m b (Some c) (Lend 0 n ∷ (Back n k ∷ []))) count
+        ∙ run-two c (lent_core c 0 n) (back_core m b (lent_core c 0 n) n) (Lend 0 n) (Back n (slice m b can.track)) (event-lend c 0 n lends) (event-back c 0 n can.track named can.is))
 
-  serial-by : (c : Core S E D) (xs : List Entry) (d : Option (Due S E D)) (some : Bool) (o : Option Name) → Named c → due m b c ≡ d → nat_lt 0 (length (verified b c)) ≡ some → first_lendable m b c c.regions ≡ o
-      → serial_by m b c d some o ≡ Some xs → Allowed m b c xs
-  serial-by c xs (Some d) some o named is shown first h =
+  round-by : (c : Core S E D) (xs : List Entry) (d : Option (Due S E D)) (some : Bool) (o : Option Name) → Named c → due m b c ≡ d → nat_lt 0 (length (verified b c)) ≡ some → first_lendable m b c c.regions ≡ o
+      → serial_by m b c d some o ≡ Some xs → Round c xs
+  round-by c xs (Some d) some o named is shown first h =
       let same : entry_of c d ∷ [] ≡ xs = cc in
-      subst (λ ys. Allowed m b c ys) same (record { new = effect m b c d; leads = run-one c (effect m b c d) (entry_of c d) (event-entry_of c d is) })
-  serial-by c xs None true o named is shown first h =
+      subst (λ ys. Round c ys) same (DueRound d is (run-one c (effect m b c d) (entry_of c d) (event-entry_of c d is)))
+  round-by c xs None true o named is shown first h =
       let same : Release (length (verified b c)) ∷ [] ≡ xs = cc in
-      subst (λ ys. Allowed m b c ys) same (record { new = released_core b c; leads = run-one c (released_core b c) (Release (length (verified b c))) (event-release c shown) })
-  serial-by c xs None false (Some n) named is shown first h =
+      subst (λ ys. Round c ys) same (ReleaseRound shown (run-one c (released_core b c) (Release (length (verified b c))) (event-release c shown)))
+  round-by c xs None false (Some n) named is shown first h =
       let lends = first_lendable-true c n c.regions first in
       let same : Lend 0 n ∷ (Back n (slice_of m b (find_track c n)) ∷ []) ≡ xs = cc in
-      subst (λ ys. Allowed m b c ys) same (lend-and-back c n named (lendable-true m b c n lends) lends)
-  serial-by c xs None false None named is shown first h = absurd (cc)
+      subst (λ ys. Round c ys) same (lend-and-back c n named (lendable-true m b c n lends) lends)
+  round-by c xs None false None named is shown first h = absurd (cc)
+
+  -- what comes next is a round
+  pub serial_next-round : (c : Core S E D) (xs : List Entry) → Named c → serial_next m b c ≡ Some xs → Round c xs
+  serial_next-round c xs named h =
+      round-by c xs (due m b c) (nat_lt 0 (length (verified b c))) (first_lendable m b c c.regions) named refl refl refl h
+
+  round-allowed : (c : Core S E D) (xs : List Entry) → Round c xs → Allowed m b c xs
+  round-allowed c xs (DueRound d is leads) = record { new = effect m b c d; leads = leads }
+  round-allowed c xs (ReleaseRound shown leads) = record { new = released_core b c; leads = leads }
+  round-allowed c xs (LendRound n t can leads) = record { new = back_core m b (lent_core c 0 n) n; leads = leads }
 
   -- what comes next is allowed
   pub serial_next-allowed : (c : Core S E D) (xs : List Entry) → Named c → serial_next m b c ≡ Some xs → Allowed m b c xs
-  serial_next-allowed c xs named h =
-      serial-by c xs (due m b c) (nat_lt 0 (length (verified b c))) (first_lendable m b c c.regions) named refl refl refl h
+  serial_next-allowed c xs named h = round-allowed c xs (serial_next-round c xs named h)
 
   run-none : (c : Core S E D) → core_run m b (Some c) [] ≡ Some c
   unfolding core_run
