@@ -4,3 +4,4 @@ pub mod Sound
 pub mod Naming
 pub mod Totals
 pub mod Fates
+pub mod Examples

@@ -4,4 +4,5 @@
 //! The proofs are of any machine and stand in `proofs/`. The functions here state them at the toy machine.
 #![tactic(auto)]
 
+pub mod examples;
 pub mod laws;
