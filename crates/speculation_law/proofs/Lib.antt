@@ -28,3 +28,4 @@ pub mod Weights
 pub mod SerialRounds
 pub mod Progress
 pub mod SerialEnds
+pub mod Prefixes

@@ -12,6 +12,7 @@ use Rattle.speculation.specs.Events.{released_core, core_run}
 use Rattle.speculation.specs.Law.{Exact, IsHistory}
 use Rattle.speculation.specs.Serial.{first_lendable, serial_by, serial_next, next_of, serial_more, serial, IsSerial}
 use Rattle.speculation_law.specs.Naming.{Sound}
+use Rattle.speculation_law.specs.Serial.{SerialHistory}
 use Rattle.speculation_law.proofs.Happens.{lent_core, back_core}
 use Rattle.speculation_law.proofs.Soundness.{sound-opening, sound-on, core_run-append}
 use Rattle.speculation_law.proofs.SerialSteps.{Round, DueRound, ReleaseRound, LendRound, serial_next-round}
@@ -141,3 +142,11 @@ module _ {S E D : Type 0} (m : Machine S E D) (b : Settings) where
     pub serial-history : IsHistory m b start serial-entries serial-finishes.last
     unfolding serial-entries
     serial-history = serial-finishes.leads
+
+    -- all of it
+    pub serial-whole : 0 < b.tracks → SerialHistory m b start
+    serial-whole some =
+        let ended = serial-ended some in
+        record {
+          entries = serial-entries; serial = serial-is; core = serial-finishes.last; legal = serial-history;
+          finished = ended.finished; finish = ended.is; released = ended.released }

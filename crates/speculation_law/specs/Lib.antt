@@ -5,3 +5,4 @@ pub mod Naming
 pub mod Totals
 pub mod Fates
 pub mod Examples
+pub mod Serial
