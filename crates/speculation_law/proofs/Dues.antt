@@ -1,5 +1,6 @@
 -- Due events taken apart.
 use Rattle.std.proofs.Common.{◌≡◌, ℕ, zero, suc, ◌+◌, ◌-◌, ◌<◌, ◌≤◌, Bool, true, false, ◌&&◌, List, [], ◌∷◌, Option, Some, None, length, nat_le, nat_lt, refl, sym, ap, ◌∙◌, subst, ltb-true, leb-true, leb-false, arith}
+use Rattle.std.proofs.lemmas.Bool.{and_parts}
 use Rattle.speculation.specs.declared.tracks.Kind.{Kind}
 use Rattle.speculation.specs.declared.tracks.Kind.TheVariants.{Normal, Fast, Segment}
 use Rattle.speculation.specs.declared.history.Settings.{Settings}
@@ -7,7 +8,6 @@ use Rattle.speculation.specs.Machine.{Machine}
 use Rattle.speculation.specs.Verdicts.{Judged, judge}
 use Rattle.speculation.specs.Core.{Core, Track, Region, Finished, over, front, front_home, lead_home, track_point, at_boundary, is_kind, most_held}
 use Rattle.speculation.specs.Due.{Judgement, Due, Finishing, Crossing, Judging, Forking, finish_by, finish_test, cross_test, seen, judgement, verdict_due, fork_test, choose, due}
-use Rattle.speculation_law.proofs.Options.{Both, and-true}
 use Rattle.speculation_law.proofs.Names.{kind-fast, kind-segment}
 
 -- what each kind of event that is chosen says
@@ -122,9 +122,9 @@ judgement-some : {S E D : Type 0} (m : Machine S E D) (c : Core S E D) (r : Regi
 judgement-some m c r rs false o v p q h = absurd (cc)
 judgement-some m c r rs true None v p q h = absurd (cc)
 judgement-some {S} {E} {D} m c r rs true (Some j) v p q h =
-    let both = and-true (front_home c) (at_boundary m r.normal) p in
+    let both = and_parts (front_home c) (at_boundary m r.normal) p in
     let is : record { region = r; younger = rs; judged = j } ≡ v = cc in
-    let made : IsJudged m c (r ∷ rs) (record { region = r; younger = rs; judged = j }) = record { open_regions = refl; home = both.one; boundary = both.two; answer = q } in
+    let made : IsJudged m c (r ∷ rs) (record { region = r; younger = rs; judged = j }) = record { open_regions = refl; home = both.0; boundary = both.1; answer = q } in
     subst (λ (w : Judgement S D). IsJudged m c (r ∷ rs) w) is made
 
 pub verdict_due-some : {S E D : Type 0} (m : Machine S E D) (c : Core S E D) (regions : List (Region S)) (v : Judgement S D) → verdict_due m c regions ≡ Some v → IsJudged m c regions v
@@ -141,9 +141,9 @@ pub record CrossingLead {S E D : Type 0} (m : Machine S E D) (c : Core S E D) : 
 
 pub cross_test-true : {S E D : Type 0} (m : Machine S E D) (c : Core S E D) → cross_test m c ≡ true → CrossingLead m c
 cross_test-true m c h =
-    let first = and-true (lead_home c) (is_kind c.lead.kind Fast && at_boundary m c.lead) h in
-    let second = and-true (is_kind c.lead.kind Fast) (at_boundary m c.lead) first.two in
-    record { home = first.one; kind = kind-fast c.lead.kind second.one; boundary = second.two }
+    let first = and_parts (lead_home c) (is_kind c.lead.kind Fast && at_boundary m c.lead) h in
+    let second = and_parts (is_kind c.lead.kind Fast) (at_boundary m c.lead) first.1 in
+    record { home = first.0; kind = kind-fast c.lead.kind second.0; boundary = second.1 }
 
 pub record ForkingLead {S E D : Type 0} (m : Machine S E D) (b : Settings) (c : Core S E D) : Type 0 where
   pub home : lead_home c ≡ true
@@ -154,11 +154,11 @@ pub record ForkingLead {S E D : Type 0} (m : Machine S E D) (b : Settings) (c : 
 
 pub fork_test-true : {S E D : Type 0} (m : Machine S E D) (b : Settings) (c : Core S E D) → fork_test m b c ≡ true → ForkingLead m b c
 fork_test-true m b c h =
-    let first = and-true (lead_home c) (is_kind c.lead.kind Segment && (at_boundary m c.lead && (nat_lt (length c.regions) b.tracks && nat_lt (length c.ready) most_held))) h in
-    let second = and-true (is_kind c.lead.kind Segment) (at_boundary m c.lead && (nat_lt (length c.regions) b.tracks && nat_lt (length c.ready) most_held)) first.two in
-    let third = and-true (at_boundary m c.lead) (nat_lt (length c.regions) b.tracks && nat_lt (length c.ready) most_held) second.two in
-    let fourth = and-true (nat_lt (length c.regions) b.tracks) (nat_lt (length c.ready) most_held) third.two in
-    record { home = first.one; kind = kind-segment c.lead.kind second.one; boundary = third.one; room = ltb-true (length c.regions) b.tracks fourth.one; ready = ltb-true (length c.ready) most_held fourth.two }
+    let first = and_parts (lead_home c) (is_kind c.lead.kind Segment && (at_boundary m c.lead && (nat_lt (length c.regions) b.tracks && nat_lt (length c.ready) most_held))) h in
+    let second = and_parts (is_kind c.lead.kind Segment) (at_boundary m c.lead && (nat_lt (length c.regions) b.tracks && nat_lt (length c.ready) most_held)) first.1 in
+    let third = and_parts (at_boundary m c.lead) (nat_lt (length c.regions) b.tracks && nat_lt (length c.ready) most_held) second.1 in
+    let fourth = and_parts (nat_lt (length c.regions) b.tracks) (nat_lt (length c.ready) most_held) third.1 in
+    record { home = first.0; kind = kind-segment c.lead.kind second.0; boundary = third.0; room = ltb-true (length c.regions) b.tracks fourth.0; ready = ltb-true (length c.ready) most_held fourth.1 }
 
 module _ {S E D : Type 0} (m : Machine S E D) (b : Settings) (c : Core S E D) where
 

@@ -1,5 +1,6 @@
 -- Each entry of a history keeps what holds of the core.
 use Rattle.std.proofs.Common.{◌≡◌, ℕ, zero, suc, ◌+◌, ◌-◌, ◌<◌, ◌≤◌, Bool, true, false, not, ◌&&◌, List, [], ◌∷◌, ◌++◌, Option, Some, None, is_none, length, nat_eq, nat_lt, refl, sym, ap, ap₂, ◌∙◌, subst}
+use Rattle.std.proofs.lemmas.Bool.{and_parts, not-true}
 use Rattle.speculation.specs.declared.tracks.Kind.TheVariants.{Normal, Fast, Segment}
 use Rattle.speculation.specs.declared.tracks.Name.{Name}
 use Rattle.speculation.specs.declared.tracks.OpenLoan.{OpenLoan}
@@ -17,7 +18,7 @@ use Rattle.speculation.specs.Events.{some_if, slice, lendable, back_regions, bac
 use Rattle.speculation.specs.Law.{Exact}
 use Rattle.speculation_law.specs.Facts.{Chain}
 use Rattle.speculation_law.specs.Sound.{Final, Good}
-use Rattle.speculation_law.proofs.Options.{Passed, some_if-some, and-true, not-true, is_none-none}
+use Rattle.speculation_law.proofs.Options.{Passed, some_if-some, is_none-none}
 use Rattle.speculation_law.proofs.Verdicts.{boundary-going, judge-verdict}
 use Rattle.speculation_law.proofs.Dues.{IsJudged, due-finishing, due-crossing, due-judging, due-forking, verdict_due-some, cross_test-true, fork_test-true}
 use Rattle.speculation_law.proofs.Chains.{track_point-at}

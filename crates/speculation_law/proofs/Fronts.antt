@@ -124,7 +124,8 @@ module _ {S E D : Type 0} (m : Machine S E D) (b : Settings) (start : S) where
         is_home going
         (subst (λ x. finish_by b.budget (base + t.own) x home (track_point m t).end (nat_le t.own (b.budget - base)) (nat_le (b.budget - base) t.own) (is_kind t.kind Normal && at_boundary m t) ≡ None) spent h)
 
-  within-by : (own left : ℕ) (closed : Bool) → Unfinished (nat_le own left) (nat_le left own) closed → own ≤ left
+  -- an own count that doesn't finish the run is within what is left
+  pub within-by : (own left : ℕ) (closed : Bool) → Unfinished (nat_le own left) (nat_le left own) closed → own ≤ left
   within-by own left closed (Below reached) = (let less = leb-false left own reached in omega arith)
   within-by own left closed (AtBoundary within is) = leb-true own left within
 
@@ -133,11 +134,7 @@ module _ {S E D : Type 0} (m : Machine S E D) (b : Settings) (start : S) where
   unfinished-within base home t h is_home going =
       within-by t.own (b.budget - base) (is_kind t.kind Normal && at_boundary m t) (unfinished-case base home t h is_home going)
 
-  below-by : (own left : ℕ) (closed : Bool) → closed ≡ false → Unfinished (nat_le own left) (nat_le left own) closed → own < left
-  below-by own left closed not (Below reached) = leb-false left own reached
-  below-by own left closed not (AtBoundary within is) = absurd (cc)
-
-  -- a segment of that kind is below it
-  pub unfinished-below : (base : ℕ) (home : Bool) (t : Track S) → finish_test m b base home t ≡ None → home ≡ true → (track_point m t).end ≡ None → t.kind ≡ Segment → t.own < b.budget - base
-  unfinished-below base home t h is_home going kind =
-      below-by t.own (b.budget - base) (is_kind t.kind Normal && at_boundary m t) (ap (λ k. is_kind k Normal && at_boundary m t) kind) (unfinished-case base home t h is_home going)
+  -- and below it, but for an original at its boundary
+  pub below-by : (own left : ℕ) (closed : Bool) → closed ≡ false → Unfinished (nat_le own left) (nat_le left own) closed → own < left
+  below-by own left closed inside (Below reached) = leb-false left own reached
+  below-by own left closed inside (AtBoundary within is) = absurd (cc)

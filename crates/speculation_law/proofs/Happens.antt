@@ -1,5 +1,6 @@
 -- What an allowed entry of a history says of the core before and after it.
 use Rattle.std.proofs.Common.{◌≡◌, ℕ, suc, ◌<◌, Bool, true, false, not, ◌&&◌, List, [], ◌∷◌, ◌++◌, Option, Some, None, is_none, length, nat_eq, nat_lt, refl, ltb-true, eqb-true}
+use Rattle.std.proofs.lemmas.Bool.{and_parts, not-true}
 use Rattle.speculation.specs.declared.tracks.Name.{Name}
 use Rattle.speculation.specs.declared.tracks.OpenLoan.{OpenLoan}
 use Rattle.speculation.specs.declared.history.Settings.{Settings}
@@ -10,7 +11,7 @@ use Rattle.speculation.specs.Core.{Core, Track, over, find_loan, find_track, ver
 use Rattle.speculation.specs.Due.{Due, due}
 use Rattle.speculation.specs.Effects.{effect}
 use Rattle.speculation.specs.Events.{some_if, slice, lendable, back_regions, back_lead, end_loan, back_of, gone_of, gone_live, released_core, is_entry_of, due_done, event}
-use Rattle.speculation_law.proofs.Options.{Passed, some_if-some, and-true, not-true, is_none-none}
+use Rattle.speculation_law.proofs.Options.{Passed, some_if-some, is_none-none}
 use Rattle.speculation_law.proofs.Lending.{Lendable, lendable-true}
 
 -- the core with a loan added
@@ -42,9 +43,9 @@ module _ {S E D : Type 0} (m : Machine S E D) (b : Settings) where
   returns-by c new n count (Some l) None loan found h = absurd (cc)
   returns-by c new n count (Some l) (Some t) loan found h =
       let passed = some_if-some (is_none l.dropped && (not (over c) && nat_eq count (slice m b t))) (back_core m b c n) new h in
-      let first = and-true (is_none l.dropped) (not (over c) && nat_eq count (slice m b t)) passed.passes in
-      let second = and-true (not (over c)) (nat_eq count (slice m b t)) first.two in
-      Returns n count l t refl (not-true (over c) second.one) loan (is_none-none l.dropped first.one) found (eqb-true count (slice m b t) second.two) passed.is
+      let first = and_parts (is_none l.dropped) (not (over c) && nat_eq count (slice m b t)) passed.passes in
+      let second = and_parts (not (over c)) (nat_eq count (slice m b t)) first.1 in
+      Returns n count l t refl (not-true (over c) second.0) loan (is_none-none l.dropped first.0) found (eqb-true count (slice m b t) second.1) passed.is
 
   vanishes-by : (c new : Core S E D) (n : Name) (l : Option OpenLoan) → find_loan n c.loans ≡ l → gone_of c n l ≡ Some new → Happens m b c new (Gone n)
   vanishes-by c new n None loan h = absurd (cc)
@@ -64,8 +65,8 @@ module _ {S E D : Type 0} (m : Machine S E D) (b : Settings) where
   event-happens c new (Discard row) h = does-by c new (Discard row) (due m b c) refl h
   event-happens c new (Release count) h =
       let passed = some_if-some (nat_lt 0 count && nat_eq count (length (verified b c))) (released_core b c) new h in
-      let both = and-true (nat_lt 0 count) (nat_eq count (length (verified b c))) passed.passes in
-      Releases count refl (ltb-true 0 count both.one) (eqb-true count (length (verified b c)) both.two) passed.is
+      let both = and_parts (nat_lt 0 count) (nat_eq count (length (verified b c))) passed.passes in
+      Releases count refl (ltb-true 0 count both.0) (eqb-true count (length (verified b c)) both.1) passed.is
   event-happens c new Finish h = does-by c new Finish (due m b c) refl h
   event-happens c new (Halt seat) h =
       let passed = some_if-some (not (over c)) (record c { halted = true }) new h in

@@ -1,6 +1,6 @@
 -- Keep and Discard: the oldest region is settled, and its row is that of the ledger.
 use Rattle.std.proofs.Common.{◌≡◌, ℕ, zero, suc, ◌+◌, ◌-◌, ◌<◌, ◌≤◌, min, Bool, true, false, not, ◌&&◌, if◌then◌else◌, List, [], ◌∷◌, ◌++◌, Option, Some, None, length, nat_le, nat_lt, refl, sym, ap, ap₂, ◌∙◌, subst, inl, inr, append_assoc, append-nil, length-append, arith}
-use Rattle.std.proofs.lemmas.Bool.{cases_lt}
+use Rattle.std.proofs.lemmas.Bool.{cases_lt, not-false, and_from}
 use Rattle.speculation.specs.declared.tracks.Kind.{Kind}
 use Rattle.speculation.specs.declared.tracks.Kind.TheVariants.{Normal, Fast, Segment}
 use Rattle.speculation.specs.declared.history.Settings.{Settings}
@@ -17,7 +17,6 @@ use Rattle.speculation.proofs.Runs.{go-add, going-below}
 use Rattle.speculation_law.specs.Facts.{NoStop, Unstopped, NormalTrack, SegmentTrack, FastTrack, Whole, Closes, FastEnd, SegmentLead, ClosedBetween, LeadAfter, Linked, Tail, Chain}
 use Rattle.speculation_law.specs.Sees.{Sees}
 use Rattle.speculation_law.specs.Sound.{Numbered, count_lent, Final, Good}
-use Rattle.speculation_law.proofs.Options.{not-false, and-intro}
 use Rattle.speculation_law.proofs.Names.{count_lent-drop_loans}
 use Rattle.speculation_law.proofs.Verdicts.{boundary-going, judge-verdict}
 use Rattle.speculation_law.proofs.Walks.{fresh-point, ledger_from-region, ledger_from-segment}
@@ -110,7 +109,7 @@ module _ {S E D : Type 0} (m : Machine S E D) where
   lead-inside_by c false true p q lost uncrossed kind waiting =
       absurd (let home : lead_home c ≡ true = ap₂ (λ (x : Bool) (ls : List _). not x && not (is_named (lead_name c) ls)) p lost in
         let fast : is_kind c.lead.kind Fast ≡ true = ap (λ k. is_kind k Fast) kind in
-        let crosses : cross_test m c ≡ true = and-intro (lead_home c) (is_kind c.lead.kind Fast && at_boundary m c.lead) home (and-intro (is_kind c.lead.kind Fast) (at_boundary m c.lead) fast q) in cc)
+        let crosses : cross_test m c ≡ true = and_from (lead_home c) (is_kind c.lead.kind Fast && at_boundary m c.lead) home (and_from (is_kind c.lead.kind Fast) (at_boundary m c.lead) fast q) in cc)
 
   -- a fast lead that isn't due to cross stands inside its region
   pub lead-inside : (c : Core S E D) → c.lost ≡ [] → cross_test m c ≡ false → (c.lead.kind ≡ Fast → is_lent (lead_name c) c.loans ≡ true → NoStop m Fast c.lead.start c.lead.own)

@@ -16,7 +16,7 @@ use Rattle.speculation_law.proofs.Verdicts.{boundary-going}
 use Rattle.speculation_law.proofs.Walks.{ledger_from-segment}
 use Rattle.speculation_law.proofs.Dues.{CrossingLead, ForkingLead}
 use Rattle.speculation_law.proofs.Chains.{whole-first, track_point-at, boundary-at, chain-crossed, chain-forked, chain-opened, segment-going}
-use Rattle.speculation_law.proofs.Fronts.{Shows, go-from, shows-good, shows-whole, shows-settled, unfinished-unspent, unfinished-within, unfinished-below}
+use Rattle.speculation_law.proofs.Fronts.{Shows, go-from, shows-good, shows-whole, shows-settled, unfinished-unspent, unfinished-within}
 
 module _ {S E D : Type 0} (m : Machine S E D) (b : Settings) (start : S) where
 
@@ -100,16 +100,10 @@ module _ {S E D : Type 0} (m : Machine S E D) (b : Settings) (start : S) where
         final = λ f is. absurd (unfinished f is);
       }
 
-  regions-are : (c : Core S E D) (rs : List (Region S)) → c.regions ≡ rs → c ≡ record c { regions = rs }
-  regions-are c rs h = λ i. record c { regions = h i }
-
   forked-by : (c : Core S E D) (rs : List (Region S)) → Good m b start (record c { regions = rs }) → ((f : Finished E) → c.finish ≡ Some f → ⊥)
       → c.lead.kind ≡ Segment → at_boundary m c.lead ≡ true → (rs ≡ [] → c.lead.own ≤ b.budget - c.base) → Good m b start (forked_core m (record c { regions = rs }))
   forked-by c [] g unfinished kind here within = good-opened c g unfinished kind here (within refl)
   forked-by c (r ∷ rs) g unfinished kind here within = good-forked_behind c r rs g unfinished kind here
-
-  lead-front : (c : Core S E D) → c.regions ≡ [] → front c ≡ c.lead
-  lead-front c h = ap (λ rs. front_of rs c.lead) h
 
   -- a lead at home that is the front is within the budget
   pub lead-within : (c : Core S E D) → finish_test m b c.base (front_home c) (front c) ≡ None → lead_home c ≡ true → at_boundary m c.lead ≡ true → c.regions ≡ [] → c.lead.own ≤ b.budget - c.base

@@ -1,5 +1,6 @@
 -- Lend, Back, Gone, Release and Halt keep what holds of the core.
 use Rattle.std.proofs.Common.{◌≡◌, ℕ, zero, suc, ◌+◌, ◌-◌, ◌<◌, ◌≤◌, Bool, true, false, not, ◌&&◌, ◌||◌, if◌then◌else◌, List, [], ◌∷◌, ◌++◌, Option, Some, None, is_some, is_none, nat_eq, nat_lt, refl, sym, ap, ap₂, ◌∙◌, subst, append-nil, append_assoc, arith}
+use Rattle.std.proofs.lemmas.Bool.{and_parts, or_parts, not-true}
 use Rattle.speculation.specs.declared.tracks.Kind.{Kind}
 use Rattle.speculation.specs.declared.tracks.Kind.TheVariants.{Normal, Fast, Segment}
 use Rattle.speculation.specs.declared.tracks.Name.{Name}
@@ -11,8 +12,8 @@ use Rattle.speculation.specs.Core.{Core, Track, Region, Finished, over, name_eq,
 use Rattle.speculation.specs.Events.{new_pieces, run_on, slice, wanted, ready_to_go, is_ready, lendable, back_normals, back_regions, back_lead, end_loan, gone_live, left_over, released_regions, released_lead, released_by, released_core}
 use Rattle.speculation_law.specs.Facts.{NoStop, Chain, NormalTrack, SegmentTrack}
 use Rattle.speculation_law.specs.Sound.{Numbered, count_lent, Final, Good}
-use Rattle.speculation_law.proofs.Options.{and-true, or-false, not-true, is_some-none}
-use Rattle.speculation_law.proofs.Names.{FoundTrack, Original, Lead, find_track-found, name_eq-true, name_eq-same, lend-once, count_lent-end_loan, is_lent-end_loan, is_lent-before, is_lent-back, is_lent-found}
+use Rattle.speculation_law.proofs.Options.{is_some-none}
+use Rattle.speculation_law.proofs.Names.{FoundTrack, Original, Lead, find_track-found, name_eq-true, name_eq-same, lend-once, count_lent-end_loan, is_lent-end_loan, is_lent-before, is_lent-back, is_lent-found, home-lent}
 use Rattle.speculation_law.proofs.Pieces.{marks_upto-left_over}
 use Rattle.speculation_law.proofs.Running.{MetNothing, has_stop-false, new-normal, new-segment}
 use Rattle.speculation_law.proofs.Chains.{chain-back, chain-released}
@@ -20,7 +21,7 @@ use Rattle.speculation_law.proofs.Fronts.{Shows, shows-good, shows-run, shows-re
 
 -- a core that isn't over has no finish
 pub unfinished : {S E D : Type 0} (c : Core S E D) → over c ≡ false → (f : Finished E) → c.finish ≡ Some f → ⊥
-unfinished c live f is = (let none = is_some-none c.finish (or-false (is_some c.finish) c.halted live).one in cc)
+unfinished c live f is = (let none = is_some-none c.finish (or_parts (is_some c.finish) c.halted live).0 in cc)
 
 module _ {S E D : Type 0} (m : Machine S E D) (b : Settings) where
 
@@ -41,18 +42,15 @@ module _ {S E D : Type 0} (m : Machine S E D) (b : Settings) where
   lendable-by : (c : Core S E D) (n : Name) (o : Option (Track S)) → over c ≡ false → find_track c n ≡ o → is_ready m b c n o ≡ true → SomeLendable c n
   lendable-by c n None live found h = absurd (cc)
   lendable-by c n (Some t) live found h =
-      let first = and-true (at_home c n) (not (has_stop m b t) && (nat_lt (held_size t.held) most_held && (if is_kind t.kind Fast then wanted m c c.regions else true))) h in
-      let second = and-true (not (has_stop m b t)) (nat_lt (held_size t.held) most_held && (if is_kind t.kind Fast then wanted m c c.regions else true)) first.two in
-      let third = and-true (nat_lt (held_size t.held) most_held) (if is_kind t.kind Fast then wanted m c c.regions else true) second.two in
-      record { track = t; is = record { live = live; found = found; home = first.one; unstopped = not-true (has_stop m b t) second.one; few = third.one; useful = third.two } }
+      let first = and_parts (at_home c n) (not (has_stop m b t) && (nat_lt (held_size t.held) most_held && (if is_kind t.kind Fast then wanted m c c.regions else true))) h in
+      let second = and_parts (not (has_stop m b t)) (nat_lt (held_size t.held) most_held && (if is_kind t.kind Fast then wanted m c c.regions else true)) first.1 in
+      let third = and_parts (nat_lt (held_size t.held) most_held) (if is_kind t.kind Fast then wanted m c c.regions else true) second.1 in
+      record { track = t; is = record { live = live; found = found; home = first.0; unstopped = not-true (has_stop m b t) second.0; few = third.0; useful = third.1 } }
 
   pub lendable-true : (c : Core S E D) (n : Name) → lendable m b c n ≡ true → SomeLendable c n
   lendable-true c n h =
-      let both = and-true (not (over c)) (is_ready m b c n (find_track c n)) h in
-      lendable-by c n (find_track c n) (not-true (over c) both.one) refl both.two
-
-  home-parts : (c : Core S E D) (n : Name) → at_home c n ≡ true → is_lent n c.loans ≡ false
-  home-parts c n h = not-true (is_lent n c.loans) (and-true (not (is_lent n c.loans)) (not (is_named n c.lost)) h).one
+      let both = and_parts (not (over c)) (is_ready m b c n (find_track c n)) h in
+      lendable-by c n (find_track c n) (not-true (over c) both.0) refl both.1
 
   -- Lend
 
@@ -86,7 +84,7 @@ module _ {S E D : Type 0} (m : Machine S E D) (b : Settings) where
   good-lent start c n seat t g h = record {
     truth = g.truth; chain = g.chain; output = g.output; numbered = g.numbered; rows = g.rows;
     waiting = waiting-lent c n seat t (name_eq (lead_name c) n) refl h g.waiting;
-    once = lend-once n seat c.loans (home-parts c n h.home) g.once;
+    once = lend-once n seat c.loans (home-lent c n h.home) g.once;
     lost = g.lost;
     final = λ f is. absurd (unfinished c h.live f is) }
 
@@ -203,7 +201,7 @@ module _ {S E D : Type 0} (m : Machine S E D) (b : Settings) where
   good-halted start c g live = record {
     truth = g.truth; chain = g.chain; output = g.output; numbered = g.numbered; rows = g.rows;
     waiting = g.waiting; once = g.once;
-    lost = λ still. absurd (let both = or-false (is_some c.finish) true still in let two = both.two in cc);
+    lost = λ still. absurd (let both = or_parts (is_some c.finish) true still in let two = both.1 in cc);
     final = λ f is. absurd (unfinished c live f is) }
 
   -- Release

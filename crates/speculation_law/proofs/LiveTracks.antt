@@ -1,5 +1,6 @@
 -- The track of a name that is lent stays the same under whatever does not concern it.
 use Rattle.std.proofs.Common.{◌≡◌, ℕ, zero, suc, ◌+◌, ◌<◌, ◌≤◌, Bool, true, false, not, ◌&&◌, if◌then◌else◌, List, [], ◌∷◌, ◌++◌, Option, Some, None, nat_eq, refl, sym, ap, ap₂, ◌∙◌, subst, inl, inr, eq-eqb, ne_eqb, eqb-true, arith}
+use Rattle.std.proofs.lemmas.Bool.{and_parts, not-true}
 use Rattle.speculation.specs.declared.tracks.Kind.{Kind}
 use Rattle.speculation.specs.declared.tracks.Name.{Name}
 use Rattle.speculation.specs.declared.tracks.OpenLoan.{OpenLoan}
@@ -10,7 +11,6 @@ use Rattle.speculation.specs.Core.{Core, Track, Part, Between, Region, name_eq, 
 use Rattle.speculation.specs.Effects.{segment_of, region_of, crossed, forked, crossed_core, forked_core}
 use Rattle.speculation.specs.Events.{run_on, slice, back_normals, back_regions, back_lead, end_loan, left_over, released_regions, released_lead, released_by}
 use Rattle.speculation_law.specs.Naming.{Rising}
-use Rattle.speculation_law.proofs.Options.{and-true, not-true}
 use Rattle.speculation_law.proofs.Names.{FoundTrack, Original, Lead, find_track-found, name_eq-true, name_eq-same}
 use Rattle.speculation_law.proofs.Happens.{back_core}
 
@@ -66,15 +66,6 @@ module _ {S : Type 0} where
   number-high number low high [] t h found = absurd (cc)
   number-high number low high (r ∷ rs) t h found =
       number-by number low high r rs t (nat_eq number r.number) refl h.0 (rising-high r.number high rs h.1) found (number-high number r.number high rs t h.1)
-
-  pub number-low_by : (number low high : ℕ) (r : Region S) (rs : List (Region S)) (t : Track S) (u : Bool) → nat_eq number r.number ≡ u → low < r.number
-      → (if u then Some r.normal else find_normal number rs) ≡ Some t → (find_normal number rs ≡ Some t → r.number < number) → low < number
-  number-low_by number low high r rs t true is above h rest = (let same = eqb-true number r.number is in omega arith)
-  number-low_by number low high r rs t false is above h rest = (let more = rest h in omega arith)
-
-  pub number-low : (number low high : ℕ) (rs : List (Region S)) (t : Track S) → Rising low high rs → find_normal number rs ≡ Some t → low < number
-  number-low number low high [] t h found = absurd (cc)
-  number-low number low high (r ∷ rs) t h found = number-low_by number low high r rs t (nat_eq number r.number) refl h.0 found (number-low number r.number high rs t h.1)
 
   pub rising-lower : (low low2 high : ℕ) (rs : List (Region S)) → low2 ≤ low → Rising low high rs → Rising low2 high rs
   rising-lower low low2 high [] le h = omega arith
@@ -157,7 +148,7 @@ module _ {S E D : Type 0} (m : Machine S E D) (b : Settings) where
     where
       apart-by : (t : Bool) → name_eq k n ≡ t → t ≡ false
       apart-by true is = absurd (let same : k ≡ n = name_eq-true k n is in
-        let none : is_lent k c.loans ≡ false = not-true (is_lent k c.loans) (and-true (not (is_lent k c.loans)) (not (is_named k c.lost)) home).one in
+        let none : is_lent k c.loans ≡ false = not-true (is_lent k c.loans) (and_parts (not (is_lent k c.loans)) (not (is_named k c.lost)) home).0 in
         let other : is_lent n c.loans ≡ false = subst (λ (x : Name). is_lent x c.loans ≡ false) same none in cc)
       apart-by false is = refl
 

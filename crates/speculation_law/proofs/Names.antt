@@ -1,6 +1,6 @@
 -- Names, kinds and the loans of a name.
 use Rattle.std.proofs.Common.{◌≡◌, ℕ, zero, suc, ◌+◌, ◌<◌, ◌≤◌, Bool, true, false, not, ◌&&◌, cond, if◌then◌else◌, List, [], ◌∷◌, ◌++◌, Option, Some, None, is_none, nat_eq, refl, sym, ap, ap₂, ◌∙◌, subst, eqb-true, eq-eqb, add-zero, arith}
-use Rattle.std.proofs.lemmas.Bool.{and_right}
+use Rattle.std.proofs.lemmas.Bool.{and_right, not-true, and_parts, and_from}
 use Rattle.speculation.specs.declared.tracks.Kind.{Kind}
 use Rattle.speculation.specs.declared.tracks.Kind.TheVariants.{Normal, Fast, Segment}
 use Rattle.speculation.specs.declared.tracks.Name.{Name}
@@ -9,12 +9,6 @@ use Rattle.speculation.specs.Core.{Core, Track, Region, name_eq, lead_name, is_k
 use Rattle.speculation.specs.Effects.{dropped_by, drop_loan, drop_loans}
 use Rattle.speculation.specs.Events.{end_loan}
 use Rattle.speculation_law.specs.Sound.{one_if, count_lent}
-use Rattle.speculation_law.proofs.Options.{Both, and-true, and-intro}
-
-pub kind-normal : (k : Kind) → is_kind k Normal ≡ true → k ≡ Normal
-kind-normal Normal h = refl
-kind-normal Fast h = absurd (cc)
-kind-normal Segment h = absurd (cc)
 
 pub kind-fast : (k : Kind) → is_kind k Fast ≡ true → k ≡ Fast
 kind-fast Normal h = absurd (cc)
@@ -38,17 +32,17 @@ bool_same false = refl
 
 pub name_eq-true : (a b : Name) → name_eq a b ≡ true → a ≡ b
 name_eq-true a b h =
-    let first = and-true (nat_eq a.generation b.generation) (nat_eq a.region b.region && (if a.normal then b.normal else not b.normal)) h in
-    let second = and-true (nat_eq a.region b.region) (if a.normal then b.normal else not b.normal) first.two in
-    let generation : a.generation ≡ b.generation = eqb-true a.generation b.generation first.one in
-    let region : a.region ≡ b.region = eqb-true a.region b.region second.one in
-    let normal : a.normal ≡ b.normal = same_bool a.normal b.normal second.two in
+    let first = and_parts (nat_eq a.generation b.generation) (nat_eq a.region b.region && (if a.normal then b.normal else not b.normal)) h in
+    let second = and_parts (nat_eq a.region b.region) (if a.normal then b.normal else not b.normal) first.1 in
+    let generation : a.generation ≡ b.generation = eqb-true a.generation b.generation first.0 in
+    let region : a.region ≡ b.region = eqb-true a.region b.region second.0 in
+    let normal : a.normal ≡ b.normal = same_bool a.normal b.normal second.1 in
     λ i. record { generation = generation i; region = region i; normal = normal i }
 
 pub name_eq-refl : (a : Name) → name_eq a a ≡ true
 name_eq-refl a =
-    and-intro (nat_eq a.generation a.generation) (nat_eq a.region a.region && (if a.normal then a.normal else not a.normal)) (eq-eqb a.generation a.generation refl)
-      (and-intro (nat_eq a.region a.region) (if a.normal then a.normal else not a.normal) (eq-eqb a.region a.region refl) (bool_same a.normal))
+    and_from (nat_eq a.generation a.generation) (nat_eq a.region a.region && (if a.normal then a.normal else not a.normal)) (eq-eqb a.generation a.generation refl)
+      (and_from (nat_eq a.region a.region) (if a.normal then a.normal else not a.normal) (eq-eqb a.region a.region refl) (bool_same a.normal))
 
 pub name_eq-same : (a b : Name) → a ≡ b → name_eq a b ≡ true
 name_eq-same a b h = subst (λ (n : Name). name_eq a n ≡ true) h (name_eq-refl a)
@@ -182,3 +176,7 @@ found-by c n t true false true p q r h =
 
 pub find_track-found : {S E D : Type 0} (c : Core S E D) (n : Name) (t : Track S) → find_track c n ≡ Some t → FoundTrack c n t
 find_track-found c n t h = found-by c n t (nat_eq n.generation c.generation) n.normal (nat_eq n.region c.last) refl refl refl h
+
+-- a track at home isn't lent
+pub home-lent : {S E D : Type 0} (c : Core S E D) (n : Name) → at_home c n ≡ true → is_lent n c.loans ≡ false
+home-lent c n h = not-true (is_lent n c.loans) (and_parts (not (is_lent n c.loans)) (not (is_named n c.lost)) h).0

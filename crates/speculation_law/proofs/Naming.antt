@@ -1,5 +1,6 @@
 -- Live tracks and loans have different names, and each loan names what it should.
 use Rattle.std.proofs.Common.{◌≡◌, ℕ, zero, suc, ◌+◌, ◌-◌, ◌<◌, ◌≤◌, Bool, true, false, not, ◌&&◌, List, [], ◌∷◌, ◌++◌, Option, Some, None, length, nat_eq, refl, sym, ap, ap₂, ◌∙◌, subst, length-append, arith}
+use Rattle.std.proofs.lemmas.Bool.{and_parts, not-true}
 use Rattle.speculation.specs.declared.tracks.Name.{Name}
 use Rattle.speculation.specs.declared.tracks.OpenLoan.{OpenLoan}
 use Rattle.speculation.specs.declared.history.Settings.{Settings}
@@ -13,8 +14,7 @@ use Rattle.speculation.specs.Due.{Judgement, Due, Finishing, Crossing, Judging, 
 use Rattle.speculation.specs.Effects.{row_of, dropped_by, drop_loan, drop_loans, crossed_core, forked_core, kept_core, dropped_core, judged_core, effect}
 use Rattle.speculation.specs.Events.{end_loan, gone_live, released_by, released_core}
 use Rattle.speculation_law.specs.Naming.{Rising, Distinct, IsLive, Named}
-use Rattle.speculation_law.proofs.Options.{and-true, not-true}
-use Rattle.speculation_law.proofs.Names.{FoundTrack, Original, Lead, find_track-found, name_eq-true, name_eq-same, is_lent-found}
+use Rattle.speculation_law.proofs.Names.{FoundTrack, Original, Lead, find_track-found, name_eq-true, name_eq-same, is_lent-found, home-lent}
 use Rattle.speculation_law.proofs.Dues.{IsJudged, due-crossing, due-judging, due-forking, verdict_due-some, cross_test-true, fork_test-true}
 use Rattle.speculation_law.proofs.Lending.{Lendable}
 use Rattle.speculation_law.proofs.Happens.{Happens, Lends, Returns, Vanishes, Releases, Halts, Does, lent_core, back_core}
@@ -43,9 +43,6 @@ module _ {S E D : Type 0} where
   -- a live track that isn't lent has no loan of its name
   pub find_loan-home : (c : Core S E D) (n : Name) → Named c → IsLive c n → is_lent n c.loans ≡ false → find_loan n c.loans ≡ None
   find_loan-home c n named live home = free-at c n (find_loan n c.loans) refl named live home
-
-  pub home-lent : (c : Core S E D) (n : Name) → at_home c n ≡ true → is_lent n c.loans ≡ false
-  home-lent c n h = not-true (is_lent n c.loans) (and-true (not (is_lent n c.loans)) (not (is_named n c.lost)) h).one
 
 module _ {S E D : Type 0} (m : Machine S E D) (b : Settings) where
 

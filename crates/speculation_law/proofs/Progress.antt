@@ -1,6 +1,6 @@
 -- Where nothing is due, verified or lendable, and nothing is lent, the core is over.
 use Rattle.std.proofs.Common.{◌≡◌, ℕ, zero, suc, ◌+◌, ◌-◌, ◌<◌, ◌≤◌, Bool, true, false, not, ◌&&◌, ◌||◌, if◌then◌else◌, List, [], ◌∷◌, ◌++◌, Option, Some, None, length, is_some, nat_eq, nat_lt, nat_le, refl, sym, ap, ap₂, ◌∙◌, subst, eq-eqb, ne_eqb, lt-ltb, ltb-true, ltb-false, leb-true, leb-false, arith}
-use Rattle.std.proofs.lemmas.Bool.{lt-leb, and_right}
+use Rattle.std.proofs.lemmas.Bool.{lt-leb, and_right, and_from, or_from}
 use Rattle.speculation.specs.declared.tracks.Kind.{Kind}
 use Rattle.speculation.specs.declared.tracks.Kind.TheVariants.{Normal, Fast, Segment}
 use Rattle.speculation.specs.declared.tracks.Name.{Name}
@@ -14,12 +14,11 @@ use Rattle.speculation.specs.Events.{wanted, ready_to_go, is_ready, lendable}
 use Rattle.speculation.specs.Serial.{first_lendable}
 use Rattle.speculation_law.specs.Facts.{Linked, Tail, Chain, FastTrack, SegmentTrack, NormalTrack}
 use Rattle.speculation_law.specs.Sound.{Good}
-use Rattle.speculation_law.proofs.Options.{and-intro, or-intro}
 use Rattle.speculation_law.proofs.Pieces.{marks_upto-all}
 use Rattle.speculation_law.proofs.Dues.{Unfinished, Below, AtBoundary}
 use Rattle.speculation_law.proofs.Judging.{tail-open}
 use Rattle.speculation_law.proofs.SerialRounds.{Solo, solo-home, solo-front}
-use Rattle.speculation_law.proofs.Fronts.{unfinished-unspent, unfinished-case}
+use Rattle.speculation_law.proofs.Fronts.{unfinished-unspent, unfinished-case, within-by, below-by}
 
 -- what it says that nothing is due
 pub record NoneChosen {S E D : Type 0} (f : Option (Finished E)) (cross : Bool) (j : Option (Judgement S D)) (fork : Bool) : Type 0 where
@@ -71,8 +70,8 @@ module _ {S E D : Type 0} (m : Machine S E D) (b : Settings) where
   -- a track with none of the stops
   no-stop : (t : Track S) → at_boundary m t ≡ false → (track_point m t).end ≡ None → t.own < b.budget → has_stop m b t ≡ false
   no-stop t inside going less =
-      or-intro (at_boundary m t) (is_some (track_point m t).end || nat_eq t.own b.budget) inside
-        (or-intro (is_some (track_point m t).end) (nat_eq t.own b.budget) (ap is_some going) (ne_eqb t.own b.budget (λ same. absurd (omega arith))))
+      or_from (at_boundary m t) (is_some (track_point m t).end || nat_eq t.own b.budget) inside
+        (or_from (is_some (track_point m t).end) (nat_eq t.own b.budget) (ap is_some going) (ne_eqb t.own b.budget (λ same. absurd (omega arith))))
 
   few : (ps : List Piece) → marks ps ≡ [] → nat_lt (held_size ps) most_held ≡ true
   unfolding most_held
@@ -81,10 +80,10 @@ module _ {S E D : Type 0} (m : Machine S E D) (b : Settings) where
   lendable-so : (c : Core S E D) (n : Name) (t : Track S) → over c ≡ false → find_track c n ≡ Some t → at_home c n ≡ true → has_stop m b t ≡ false → nat_lt (held_size t.held) most_held ≡ true
       → (if is_kind t.kind Fast then wanted m c c.regions else true) ≡ true → lendable m b c n ≡ true
   lendable-so c n t live found home unstopped small useful =
-      and-intro (not (over c)) (is_ready m b c n (find_track c n)) (ap not live)
-        (ap (is_ready m b c n) found ∙ and-intro (at_home c n) (not (has_stop m b t) && (nat_lt (held_size t.held) most_held && (if is_kind t.kind Fast then wanted m c c.regions else true))) home
-          (and-intro (not (has_stop m b t)) (nat_lt (held_size t.held) most_held && (if is_kind t.kind Fast then wanted m c c.regions else true)) (ap not unstopped)
-            (and-intro (nat_lt (held_size t.held) most_held) (if is_kind t.kind Fast then wanted m c c.regions else true) small useful)))
+      and_from (not (over c)) (is_ready m b c n (find_track c n)) (ap not live)
+        (ap (is_ready m b c n) found ∙ and_from (at_home c n) (not (has_stop m b t) && (nat_lt (held_size t.held) most_held && (if is_kind t.kind Fast then wanted m c c.regions else true))) home
+          (and_from (not (has_stop m b t)) (nat_lt (held_size t.held) most_held && (if is_kind t.kind Fast then wanted m c c.regions else true)) (ap not unstopped)
+            (and_from (nat_lt (held_size t.held) most_held) (if is_kind t.kind Fast then wanted m c c.regions else true) small useful)))
 
   lead-found : (c : Core S E D) → find_track c (lead_name c) ≡ Some c.lead
   lead-found c = ap₂ (λ p l. track_by p false l (find_normal c.last c.regions) c.lead) (eq-eqb c.generation c.generation refl) (eq-eqb c.last c.last refl)
@@ -128,14 +127,6 @@ module _ {S E D : Type 0} (m : Machine S E D) (b : Settings) where
   unfolding most_held
   most-pos n h = lt-ltb n 1048576 (omega arith)
 
-  below-left : (own left : ℕ) (closed : Bool) → Unfinished (nat_le own left) (nat_le left own) closed → closed ≡ false → own < left
-  below-left own left closed (Below reached) h = leb-false left own reached
-  below-left own left closed (AtBoundary within is) h = absurd (cc)
-
-  at-most : (own left : ℕ) (closed : Bool) → Unfinished (nat_le own left) (nat_le left own) closed → own ≤ left
-  at-most own left closed (Below reached) = (let less = leb-false left own reached in omega arith)
-  at-most own left closed (AtBoundary within is) = leb-true own left within
-
   -- no region is open: the lead is the front
   stuck-lead_by : (start : S) (c : Core S E D) (u : Bool) → at_boundary m c.lead ≡ u → Good m b start (record c { regions = [] }) → over c ≡ false → Solo c → 0 < b.tracks
       → finish_test m b c.base (lead_home c) c.lead ≡ None → fork_test m b (record c { regions = [] }) ≡ false → length (verified b (record c { regions = [] })) ≤ 0
@@ -148,7 +139,7 @@ module _ {S E D : Type 0} (m : Machine S E D) (b : Settings) where
       let going = front-unended c.base (lead_home c) c.lead unspent home none in
       let case_of = unfinished-case m b start c.base (lead_home c) c.lead none home going in
       let closed : (is_kind c.lead.kind Normal && at_boundary m c.lead) ≡ false = ap (λ x. is_kind x Normal && at_boundary m c.lead) chain.kind in
-      let less = below-left c.lead.own (b.budget - c.base) (is_kind c.lead.kind Normal && at_boundary m c.lead) case_of closed in
+      let less = below-by m b start c.lead.own (b.budget - c.base) (is_kind c.lead.kind Normal && at_boundary m c.lead) closed case_of in
       stuck-so u here k less going (front-empty start k g home shown (omega arith)) (ready-none k shown) closed
     where
       stuck-so : (u : Bool) → at_boundary m c.lead ≡ u → (k : Core S E D) → c.lead.own < b.budget - c.base → (track_point m c.lead).end ≡ None → marks c.lead.held ≡ [] → length c.ready ≤ 0
@@ -156,10 +147,10 @@ module _ {S E D : Type 0} (m : Machine S E D) (b : Settings) where
       stuck-so true is k less going empty ready closed =
           let kind : is_kind c.lead.kind Segment ≡ true = ap (λ x. is_kind x Segment) g.chain.kind in
           let forks : fork_test m b (record c { regions = [] }) ≡ true
-              = and-intro (lead_home c) (is_kind c.lead.kind Segment && (at_boundary m c.lead && (nat_lt 0 b.tracks && nat_lt (length c.ready) most_held))) (solo-home c (lead_name c) solo)
-                (and-intro (is_kind c.lead.kind Segment) (at_boundary m c.lead && (nat_lt 0 b.tracks && nat_lt (length c.ready) most_held)) kind
-                  (and-intro (at_boundary m c.lead) (nat_lt 0 b.tracks && nat_lt (length c.ready) most_held) is
-                    (and-intro (nat_lt 0 b.tracks) (nat_lt (length c.ready) most_held) (lt-ltb 0 b.tracks some) (most-pos (length c.ready) ready)))) in cc
+              = and_from (lead_home c) (is_kind c.lead.kind Segment && (at_boundary m c.lead && (nat_lt 0 b.tracks && nat_lt (length c.ready) most_held))) (solo-home c (lead_name c) solo)
+                (and_from (is_kind c.lead.kind Segment) (at_boundary m c.lead && (nat_lt 0 b.tracks && nat_lt (length c.ready) most_held)) kind
+                  (and_from (at_boundary m c.lead) (nat_lt 0 b.tracks && nat_lt (length c.ready) most_held) is
+                    (and_from (nat_lt 0 b.tracks) (nat_lt (length c.ready) most_held) (lt-ltb 0 b.tracks some) (most-pos (length c.ready) ready)))) in cc
       stuck-so false is k less going empty ready closed =
           let useful : (if is_kind c.lead.kind Fast then wanted m (record c { regions = [] }) [] else true) ≡ true = ap (λ x. if is_kind x Fast then wanted m (record c { regions = [] }) [] else true) g.chain.kind in
           let lends : lendable m b (record c { regions = [] }) (lead_name c) ≡ true
@@ -215,13 +206,13 @@ module _ {S E D : Type 0} (m : Machine S E D) (b : Settings) where
   wanted-by : (c : Core S E D) (s : S) (r : Region S) (rs : List (Region S)) (lead : Track S) → Tail m s Open r.segment rs lead → at_home c (normal_name c r) ≡ true → at_boundary m r.normal ≡ true → c.lead.own < r.normal.own
       → wanted m c (r ∷ rs) ≡ true
   wanted-by c s r [] lead h home here less =
-      ap (λ t. if t then nat_lt c.lead.own r.normal.own else true) (and-intro (at_home c (normal_name c r)) (at_boundary m r.normal) home here) ∙ lt-ltb c.lead.own r.normal.own less
+      ap (λ t. if t then nat_lt c.lead.own r.normal.own else true) (and_from (at_home c (normal_name c r)) (at_boundary m r.normal) home here) ∙ lt-ltb c.lead.own r.normal.own less
   wanted-by c s r (r2 ∷ rs) lead h home here less = absurd h.link
 
   uncrossed-inside : (c : Core S E D) (u : Bool) → at_boundary m c.lead ≡ u → lead_home c ≡ true → c.lead.kind ≡ Fast → cross_test m c ≡ false → u ≡ false
   uncrossed-inside c true is home kind h =
       absurd (let fast : is_kind c.lead.kind Fast ≡ true = ap (λ k. is_kind k Fast) kind in
-        let crosses : cross_test m c ≡ true = and-intro (lead_home c) (is_kind c.lead.kind Fast && at_boundary m c.lead) home (and-intro (is_kind c.lead.kind Fast) (at_boundary m c.lead) fast is) in cc)
+        let crosses : cross_test m c ≡ true = and_from (lead_home c) (is_kind c.lead.kind Fast && at_boundary m c.lead) home (and_from (is_kind c.lead.kind Fast) (at_boundary m c.lead) fast is) in cc)
   uncrossed-inside c false is home kind h = refl
 
   -- the oldest region is closed, and its fast version runs
@@ -249,7 +240,7 @@ module _ {S E D : Type 0} (m : Machine S E D) (b : Settings) where
       let unspent = unfinished-unspent m b start c.base (front_home k) r.normal none in
       let going = front-unended c.base (front_home k) r.normal unspent home none in
       let case_of = unfinished-case m b start c.base (front_home k) r.normal none home going in
-      let le = at-most r.normal.own (b.budget - c.base) (is_kind r.normal.kind Normal && at_boundary m r.normal) case_of in
+      let le = within-by m b start r.normal.own (b.budget - c.base) (is_kind r.normal.kind Normal && at_boundary m r.normal) case_of in
       stuck-so u here home going case_of le (front-empty start k g home shown le)
     where
       stuck-so : (u : Bool) → at_boundary m r.normal ≡ u → front_home (record c { regions = r ∷ rs }) ≡ true → (track_point m r.normal).end ≡ None
@@ -257,13 +248,13 @@ module _ {S E D : Type 0} (m : Machine S E D) (b : Settings) where
           → r.normal.own ≤ b.budget - c.base → marks r.normal.held ≡ [] → ⊥
       stuck-so true is home going case_of le empty =
           let none_answer = judgement-none r rs (front_home (record c { regions = r ∷ rs }) && at_boundary m r.normal) (judge r.normal.own (seen m r.part (track_point m r.normal).state c.lead)) unjudged
-                (and-intro (front_home (record c { regions = r ∷ rs })) (at_boundary m r.normal) home is) in
+                (and_from (front_home (record c { regions = r ∷ rs })) (at_boundary m r.normal) home is) in
           stuck-fast start c r rs g live solo uncrossed is (omega arith) (seen-running r.normal.own r.part (track_point m r.normal).state c.lead (judge-none r.normal.own (seen m r.part (track_point m r.normal).state c.lead) none_answer))
             (lead-unlendable (record c { regions = r ∷ rs }) (r ∷ rs) unlendable)
       stuck-so false is home going case_of le empty =
           let kind : r.normal.kind ≡ Normal = g.chain.normal.kind in
           let closed : (is_kind r.normal.kind Normal && at_boundary m r.normal) ≡ false = and_right (is_kind r.normal.kind Normal) (at_boundary m r.normal) is in
-          let less = below-left r.normal.own (b.budget - c.base) (is_kind r.normal.kind Normal && at_boundary m r.normal) case_of closed in
+          let less = below-by m b start r.normal.own (b.budget - c.base) (is_kind r.normal.kind Normal && at_boundary m r.normal) closed case_of in
           let useful : (if is_kind r.normal.kind Fast then wanted m (record c { regions = r ∷ rs }) (r ∷ rs) else true) ≡ true
               = ap (λ x. if is_kind x Fast then wanted m (record c { regions = r ∷ rs }) (r ∷ rs) else true) kind in
           let lends : lendable m b (record c { regions = r ∷ rs }) (normal_name c r) ≡ true

@@ -1,6 +1,6 @@
 -- A track that runs on by one slice meets nothing on the way, and holds what it writes.
 use Rattle.std.proofs.Common.{◌≡◌, ℕ, zero, suc, ◌+◌, ◌-◌, ◌<◌, ◌≤◌, Bool, true, false, ◌||◌, List, [], ◌++◌, Option, Some, None, is_some, nat_eq, nat_le, refl, sym, ap, ap₂, ◌∙◌, subst, inl, inr, eq-eqb, add-zero, add_assoc, arith}
-use Rattle.std.proofs.lemmas.Bool.{cases_lt}
+use Rattle.std.proofs.lemmas.Bool.{cases_lt, or_parts}
 use Rattle.speculation.specs.declared.tracks.Kind.{Kind}
 use Rattle.speculation.specs.declared.tracks.Kind.TheVariants.{Normal, Fast, Segment}
 use Rattle.speculation.specs.declared.history.Settings.{Settings}
@@ -11,7 +11,7 @@ use Rattle.speculation.specs.Core.{Track, track_point, at_boundary, has_stop, he
 use Rattle.speculation.specs.Events.{new_pieces, run_on, slice}
 use Rattle.speculation.proofs.Runs.{pieces-add}
 use Rattle.speculation_law.specs.Facts.{NoStop, Unstopped, NormalTrack, SegmentTrack, FastTrack, Whole}
-use Rattle.speculation_law.proofs.Options.{or-false, is_some-none}
+use Rattle.speculation_law.proofs.Options.{is_some-none}
 use Rattle.speculation_law.proofs.Least.{first-below}
 
 module _ {S E D : Type 0} (m : Machine S E D) (b : Settings) where
@@ -23,17 +23,17 @@ module _ {S E D : Type 0} (m : Machine S E D) (b : Settings) where
 
   pub has_stop-false : (t : Track S) → has_stop m b t ≡ false → MetNothing t
   has_stop-false t h =
-      let first = or-false (at_boundary m t) (is_some (track_point m t).end || nat_eq t.own b.budget) h in
-      let second = or-false (is_some (track_point m t).end) (nat_eq t.own b.budget) first.two in
-      record { met = record { going = is_some-none (track_point m t).end second.one; inside = first.one }; unspent = second.two }
+      let first = or_parts (at_boundary m t) (is_some (track_point m t).end || nat_eq t.own b.budget) h in
+      let second = or_parts (is_some (track_point m t).end) (nat_eq t.own b.budget) first.1 in
+      record { met = record { going = is_some-none (track_point m t).end second.0; inside = first.0 }; unspent = second.1 }
 
   -- nor before the slice is over
   pub slice-unstopped : (t : Track S) (k : ℕ) → k < slice m b t → MetNothing (run_on m t k)
   unfolding slice
   slice-unstopped t k less =
       has_stop-false (run_on m t k)
-        (or-false (has_stop m b (run_on m t k)) (nat_le most_held (held_size (run_on m t k).held))
-          (first-below (λ i. has_stop m b (run_on m t i) || nat_le most_held (held_size (run_on m t i).held)) most_slice k less)).one
+        (or_parts (has_stop m b (run_on m t k)) (nat_le most_held (held_size (run_on m t k).held))
+          (first-below (λ i. has_stop m b (run_on m t i) || nat_le most_held (held_size (run_on m t i).held)) most_slice k less)).0
 
   least-more : (kind : Kind) (s : S) (own j : ℕ) → Unstopped m kind s own → ((k : ℕ) → k < j → NoStop m kind s (own + k)) → Unstopped m kind s (own + j)
   least-more kind s own j least more = record { at = λ i less. elim (cases_lt i own) [

@@ -1,5 +1,6 @@
 -- Each round of the serial history makes the measure smaller.
 use Rattle.std.proofs.Common.{◌≡◌, ℕ, zero, suc, ◌+◌, ◌-◌, ◌*◌, ◌<◌, ◌≤◌, Bool, true, false, not, ◌&&◌, ◌||◌, if◌then◌else◌, List, [], ◌∷◌, ◌++◌, Option, Some, None, length, is_some, nat_eq, nat_lt, nat_le, refl, sym, ap, ap₂, ◌∙◌, subst, inl, inr, append-nil, eq-eqb, ne_eqb, lt-ltb, ltb-false, leb-true, leb-false, arith}
+use Rattle.std.proofs.lemmas.Bool.{and_from, or_from}
 use Rattle.speculation.specs.declared.tracks.Kind.{Kind}
 use Rattle.speculation.specs.declared.tracks.Kind.TheVariants.{Normal, Fast, Segment}
 use Rattle.speculation.specs.declared.tracks.Name.{Name}
@@ -19,7 +20,6 @@ use Rattle.speculation.specs.Serial.{first_lendable, serial_by, serial_next, nex
 use Rattle.speculation_law.specs.Facts.{NoStop, Tail, Chain, FastTrack}
 use Rattle.speculation_law.specs.Sound.{one_if, Good}
 use Rattle.speculation_law.specs.Naming.{Bounded, Named, Sound}
-use Rattle.speculation_law.proofs.Options.{and-intro, or-intro}
 use Rattle.speculation_law.proofs.Names.{FoundTrack, Original, Lead, find_track-found, name_eq-refl}
 use Rattle.speculation_law.proofs.Pieces.{marks_upto-all, marks_upto-left_over}
 use Rattle.speculation_law.proofs.Dues.{Unfinished, Below, AtBoundary, finish_by-unspent, finish_by-none, CrossingLead, due-finishing, due-crossing, due-forking, cross_test-true, fork_test-true, verdict_due-some, due-judging}
@@ -167,9 +167,6 @@ module _ {S E D : Type 0} (m : Machine S E D) (b : Settings) where
         (shown-falls b (digits_of b c) (digits_of b k) (digits-small m b k (subst (λ (x : Core S E D). Bounded b x) is bounded)) (omega arith) (omega arith) (omega arith) (omega arith) (omega arith) (omega arith))
 
   -- Lend and Back
-
-  run-kind : (t : Track S) (k : ℕ) → one_if (is_kind (run_on m t k).kind Fast) ≡ one_if (is_kind t.kind Fast)
-  run-kind t k = refl
 
   work-returned : (c : Core S E D) (n : Name) (t : Track S) → FoundTrack c n t → Bounded b c → 0 < slice m b t
       → work_of b.budget (back_core m b c n).regions + (b.budget - (back_core m b c n).lead.own) < work_of b.budget c.regions + (b.budget - c.lead.own)

@@ -1,5 +1,6 @@
 -- What comes next in the serial history is allowed, so the serial history is legal.
 use Rattle.std.proofs.Common.{◌≡◌, ℕ, zero, suc, ◌+◌, ◌<◌, ◌≤◌, Bool, true, false, not, ◌&&◌, if◌then◌else◌, List, [], ◌∷◌, ◌++◌, Option, Some, None, length, is_none, nat_eq, nat_lt, refl, sym, ap, ap₂, ◌∙◌, subst, eq-eqb}
+use Rattle.std.proofs.lemmas.Bool.{and_from}
 use Rattle.speculation.specs.declared.tracks.Name.{Name}
 use Rattle.speculation.specs.declared.tracks.OpenLoan.{OpenLoan}
 use Rattle.speculation.specs.declared.history.Settings.{Settings}
@@ -14,12 +15,11 @@ use Rattle.speculation.specs.Events.{some_if, slice, lendable, back_of, end_loan
 use Rattle.speculation.specs.Law.{Exact, IsHistory}
 use Rattle.speculation.specs.Serial.{row_entry, entry_of, first_lendable, slice_of, serial_by, serial_next, next_of, serial_more, serial}
 use Rattle.speculation_law.specs.Naming.{Named, Sound}
-use Rattle.speculation_law.proofs.Options.{and-intro}
-use Rattle.speculation_law.proofs.Names.{name_eq-refl}
+use Rattle.speculation_law.proofs.Names.{name_eq-refl, home-lent}
 use Rattle.speculation_law.proofs.FindLoan.{find_loan-new}
 use Rattle.speculation_law.proofs.Lending.{Lendable, SomeLendable, lendable-true}
 use Rattle.speculation_law.proofs.Happens.{lent_core, back_core}
-use Rattle.speculation_law.proofs.Naming.{find_loan-home, home-lent}
+use Rattle.speculation_law.proofs.Naming.{find_loan-home}
 use Rattle.speculation_law.proofs.Soundness.{sound-opening, sound-on, core_run-append}
 
 some_if-true : {A : Type 0} (t : Bool) (a : A) → t ≡ true → some_if t a ≡ Some a
@@ -63,7 +63,7 @@ module _ {S E D : Type 0} (m : Machine S E D) (b : Settings) where
   event-release : (c : Core S E D) → nat_lt 0 (length (verified b c)) ≡ true → event m b c (Release (length (verified b c))) ≡ Some (released_core b c)
   unfolding event
   event-release c h = some_if-true (nat_lt 0 (length (verified b c)) && nat_eq (length (verified b c)) (length (verified b c))) (released_core b c)
-    (and-intro (nat_lt 0 (length (verified b c))) (nat_eq (length (verified b c)) (length (verified b c))) h (eq-eqb (length (verified b c)) (length (verified b c)) refl))
+    (and_from (nat_lt 0 (length (verified b c))) (nat_eq (length (verified b c)) (length (verified b c))) h (eq-eqb (length (verified b c)) (length (verified b c)) refl))
 
   pub event-lend : (c : Core S E D) (seat : ℕ) (n : Name) → lendable m b c n ≡ true → event m b c (Lend seat n) ≡ Some (lent_core c seat n)
   unfolding event
@@ -77,7 +77,7 @@ module _ {S E D : Type 0} (m : Machine S E D) (b : Settings) where
       let lent : find_loan n (lent_core c seat n).loans ≡ Some loan = find_loan-new c.loans loan (find_loan-home c n named (t, can.found) (home-lent c n can.home)) in
       ap₂ (λ (l : Option OpenLoan) (o : Option (Track S)). back_of m b (lent_core c seat n) n (slice m b t) l o) lent can.found
       ∙ some_if-true (is_none {T = ℕ} None && (not (over c) && nat_eq (slice m b t) (slice m b t))) (back_core m b (lent_core c seat n) n)
-        (and-intro (not (over c)) (nat_eq (slice m b t) (slice m b t)) (ap not can.live) (eq-eqb (slice m b t) (slice m b t) refl))
+        (and_from (not (over c)) (nat_eq (slice m b t) (slice m b t)) (ap not can.live) (eq-eqb (slice m b t) (slice m b t) refl))
 
   first-by : (c : Core S E D) (n k : Name) (rest : Option Name) (t : Bool) → lendable m b c k ≡ t → (if t then Some k else rest) ≡ Some n → (rest ≡ Some n → lendable m b c n ≡ true) → lendable m b c n ≡ true
   first-by c n k rest true is h f = (let same : k ≡ n = cc in subst (λ (x : Name). lendable m b c x ≡ true) same is)

@@ -2,7 +2,7 @@
 -- are: whether the core isn't over; budget less base; how many more regions may open; whether the lead is fast; the tracks'
 -- instructions that are left; and whether bytes are verified. Joined as the digits of one number.
 use Rattle.std.proofs.Common.{◌≡◌, ℕ, zero, suc, ◌+◌, ◌-◌, ◌*◌, ◌<◌, ◌≤◌, Bool, true, false, not, ◌&&◌, ◌||◌, if◌then◌else◌, List, [], ◌∷◌, ◌++◌, Option, Some, None, length, nat_eq, nat_lt, nat_le, refl, sym, ap, ap₂, ◌∙◌, subst, inl, inr, suc-mul, mul-le-mul_right, add-zero, append-nil, ltb-true, unwrap_or, arith}
-use Rattle.std.proofs.lemmas.Bool.{lt-leb}
+use Rattle.std.proofs.lemmas.Bool.{lt-leb, or_from}
 use Rattle.speculation.specs.declared.tracks.Kind.{Kind}
 use Rattle.speculation.specs.declared.tracks.Kind.TheVariants.{Normal, Fast, Segment}
 use Rattle.speculation.specs.declared.history.Settings.{Settings}
@@ -13,7 +13,6 @@ use Rattle.speculation.specs.Core.{Core, Track, Region, over, find_normal, is_ki
 use Rattle.speculation.specs.Events.{new_pieces, run_on, slice, back_normals}
 use Rattle.speculation_law.specs.Sound.{one_if}
 use Rattle.speculation_law.specs.Naming.{RegionsWithin, Bounded}
-use Rattle.speculation_law.proofs.Options.{or-intro}
 use Rattle.speculation_law.proofs.Least.{first-at}
 use Rattle.speculation_law.proofs.Bounds.{slice-within}
 
@@ -155,7 +154,7 @@ module _ {S E D : Type 0} (m : Machine S E D) (b : Settings) where
       let f : ℕ → Bool = λ k. has_stop m b (run_on m t k) || nat_le most_held (held_size (run_on m t k).held) in
       let at : f (unwrap_or (first_from f 0 65536) 65536) ≡ true = first-at f 65536 (omega arith) in
       let here : f 0 ≡ true = subst (λ k. f k ≡ true) none at in
-      let not : f 0 ≡ false = ap (λ (x : Track S). has_stop m b x || nat_le most_held (held_size x.held)) (run_on-zero t) ∙ or-intro (has_stop m b t) (nat_le most_held (held_size t.held)) unstopped (few-held t few) in
+      let not : f 0 ≡ false = ap (λ (x : Track S). has_stop m b x || nat_le most_held (held_size x.held)) (run_on-zero t) ∙ or_from (has_stop m b t) (nat_le most_held (held_size t.held)) unstopped (few-held t few) in
       cc
 
   slice-by : (n : ℕ) → (n ≡ 0 → ⊥) → 0 < n
