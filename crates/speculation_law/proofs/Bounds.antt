@@ -1,33 +1,29 @@
 -- The numbers of the core are bounded.
-use Rattle.std.proofs.Common.{◌≡◌, ℕ, zero, suc, ◌+◌, ◌-◌, ◌*◌, ◌<◌, ◌≤◌, Bool, true, false, List, [], ◌∷◌, ◌++◌, Option, Some, None, length, nat_eq, if◌then◌else◌, refl, sym, ap, ap₂, ◌∙◌, subst, inl, inr, eq-eqb, length-append, arith}
+use Rattle.std.proofs.Common.{◌≡◌, ℕ, suc, ◌+◌, ◌-◌, ◌*◌, ◌<◌, ◌≤◌, Bool, true, false, List, [], ◌∷◌, Option, Some, None, length, nat_eq, if◌then◌else◌, refl, sym, ap, ◌∙◌, subst, inl, inr, eq-eqb, length-append, arith}
 use Rattle.std.proofs.lemmas.Bool.{cases_lt}
-use Rattle.speculation.specs.declared.tracks.Kind.TheVariants.{Normal, Fast, Segment}
+use Rattle.speculation.specs.declared.tracks.Kind.TheVariants.{Normal}
 use Rattle.speculation.specs.declared.tracks.Name.{Name}
 use Rattle.speculation.specs.declared.history.Settings.{Settings}
 use Rattle.speculation.specs.declared.history.Entry.{Entry}
 use Rattle.speculation.specs.Machine.{Machine}
 use Rattle.speculation.specs.Run.{Mark, fresh, go}
-use Rattle.speculation.specs.Tracks.{boundary}
-use Rattle.speculation.specs.Verdicts.{Verdict, Kept, Differs, Stopped, Late, Judged}
-use Rattle.speculation.specs.Ledger.{Row}
-use Rattle.speculation.specs.Core.{Core, Track, Part, Open, Closed, Between, Region, opening, front, front_home, track_point, at_boundary, verified}
+use Rattle.speculation.specs.Verdicts.{Verdict, Kept, Differs, Stopped, Late}
+use Rattle.speculation.specs.Core.{Core, Track, Between, Region, opening, front, front_home, track_point, verified}
 use Rattle.speculation.specs.Due.{Judgement, Due, Finishing, Crossing, Judging, Forking, due}
-use Rattle.speculation.specs.Effects.{row_of, between_steps, base_after_fork, region_of, crossed, forked, crossed_core, forked_core, kept_core, dropped_core, judged_core, effect}
+use Rattle.speculation.specs.Effects.{row_of, base_after_fork, region_of, crossed, forked, crossed_core, forked_core, kept_core, dropped_core, judged_core, effect}
 use Rattle.speculation.specs.Events.{run_on, slice, back_normals, back_regions, back_lead, gone_live, released_regions, released_lead, released_by}
-use Rattle.speculation_law.specs.Facts.{Chain}
 use Rattle.speculation_law.specs.Sound.{Good}
-use Rattle.speculation_law.specs.Naming.{PartWithin, RegionsWithin, Bounded}
+use Rattle.speculation_law.specs.Naming.{RegionsWithin, Bounded}
 use Rattle.speculation_law.proofs.Running.{slice-unstopped}
 use Rattle.speculation_law.proofs.Dues.{due-judging, due-forking, verdict_due-some, fork_test-true}
 use Rattle.speculation_law.proofs.Chains.{boundary-at}
 use Rattle.speculation_law.proofs.Fronts.{unfinished-unspent}
 use Rattle.speculation_law.proofs.Judging.{normal-pos}
 use Rattle.speculation_law.proofs.Leading.{lead-within}
-use Rattle.speculation_law.proofs.Happens.{Happens, Lends, Returns, Vanishes, Releases, Halts, Does, lent_core, back_core}
+use Rattle.speculation_law.proofs.Happens.{Happens, Lends, Returns, Vanishes, Releases, Halts, Does, back_core}
 use Rattle.speculation_law.proofs.Events.{Judges, judges-due}
 
 module _ {S : Type 0} where
-
   within-crossed : (budget k : ℕ) (s : S) (rs : List (Region S)) → k ≤ budget → RegionsWithin budget rs → RegionsWithin budget (crossed rs k s)
   within-crossed budget k s [] le h = tt
   within-crossed budget k s (r ∷ []) le h = record { normal = h.normal; part = le; segment = h.segment; rest = tt }
@@ -57,13 +53,13 @@ module _ {S : Type 0} where
   length-released limit (r ∷ rs) = refl
 
 module _ {S E D : Type 0} (m : Machine S E D) (b : Settings) where
-
   -- a slice doesn't pass the budget
   pub slice-within : (t : Track S) → t.own ≤ b.budget → t.own + slice m b t ≤ b.budget
   slice-within t le = elim (cases_lt b.budget (t.own + slice m b t)) [
-      inl past ↦ absurd (let k = b.budget - t.own in let whole : t.own + k ≡ b.budget = omega arith in
+    | inl past ↦ absurd (let k = b.budget - t.own in let whole : t.own + k ≡ b.budget = omega arith in
         let unspent = (slice-unstopped m b t k (omega arith)).unspent in let spent : nat_eq (t.own + k) b.budget ≡ true = eq-eqb (t.own + k) b.budget whole in cc)
-    | inr below ↦ below ]
+    | inr below ↦ below
+  ]
 
   within-back_by : (number : ℕ) (r : Region S) (rs : List (Region S)) (t : Bool) → RegionsWithin b.budget (r ∷ rs) → RegionsWithin b.budget (back_normals m b number rs)
       → RegionsWithin b.budget (if t then (record r { normal = run_on m r.normal (slice m b r.normal) }) ∷ rs else r ∷ back_normals m b number rs)
@@ -90,11 +86,23 @@ module _ {S E D : Type 0} (m : Machine S E D) (b : Settings) where
   bounded-back_by : (c : Core S E D) (n : Name) (normal : Bool) → n.normal ≡ normal → Bounded b c
       → Bounded b (record c { regions = back_regions m b normal n.region c.regions; lead = back_lead m b normal c.lead; loans = (back_core m b c n).loans })
   bounded-back_by c n true is h = record {
-    regions = within-normals n.region c.regions h.regions; lead = h.lead; base = h.base; rows = h.rows; generation = h.generation;
+    regions = within-normals n.region c.regions h.regions;
+    lead = h.lead;
+    base = h.base;
+    rows = h.rows;
+    generation = h.generation;
     open_regions = subst (λ k. k ≤ b.tracks) (sym (length-normals n.region c.regions)) h.open_regions;
-    last = subst (λ k. c.last ≤ length c.rows + k) (sym (length-normals n.region c.regions)) h.last }
+    last = subst (λ k. c.last ≤ length c.rows + k) (sym (length-normals n.region c.regions)) h.last;
+  }
   bounded-back_by c n false is h = record {
-    regions = h.regions; lead = slice-within c.lead h.lead; base = h.base; rows = h.rows; generation = h.generation; open_regions = h.open_regions; last = h.last }
+    regions = h.regions;
+    lead = slice-within c.lead h.lead;
+    base = h.base;
+    rows = h.rows;
+    generation = h.generation;
+    open_regions = h.open_regions;
+    last = h.last;
+  }
 
   bounded-back : (c : Core S E D) (n : Name) → Bounded b c → Bounded b (back_core m b c n)
   bounded-back c n h = bounded-back_by c n n.normal refl h
@@ -110,18 +118,27 @@ module _ {S E D : Type 0} (m : Machine S E D) (b : Settings) where
   bounded-released_by : (c : Core S E D) (home : Bool) (limit : ℕ) (bytes : List Mark) → Bounded b c → Bounded b (released_by home limit c bytes)
   bounded-released_by c true limit bytes h = record {
     regions = within-released b.budget limit c.regions h.regions;
-    lead = subst (λ k. k ≤ b.budget) (sym (lead-released limit c.regions c.lead)) h.lead; base = h.base; rows = h.rows; generation = h.generation;
+    lead = subst (λ k. k ≤ b.budget) (sym (lead-released limit c.regions c.lead)) h.lead;
+    base = h.base;
+    rows = h.rows;
+    generation = h.generation;
     open_regions = subst (λ k. k ≤ b.tracks) (sym (length-released limit c.regions)) h.open_regions;
-    last = subst (λ k. c.last ≤ length c.rows + k) (sym (length-released limit c.regions)) h.last }
+    last = subst (λ k. c.last ≤ length c.rows + k) (sym (length-released limit c.regions)) h.last;
+  }
   bounded-released_by c false limit bytes h = record { regions = h.regions; lead = h.lead; base = h.base; rows = h.rows; generation = h.generation; open_regions = h.open_regions; last = h.last }
 
   bounded-crossed : (c : Core S E D) → Bounded b c → Bounded b (crossed_core m c)
   bounded-crossed c h =
       let same = length-crossed c.lead.own (track_point m c.lead).state c.regions in
       record {
-        regions = within-crossed b.budget c.lead.own (track_point m c.lead).state c.regions h.lead h.regions; lead = omega arith; base = h.base; rows = h.rows; generation = h.generation;
+        regions = within-crossed b.budget c.lead.own (track_point m c.lead).state c.regions h.lead h.regions;
+        lead = omega arith;
+        base = h.base;
+        rows = h.rows;
+        generation = h.generation;
         open_regions = subst (λ k. k ≤ b.tracks) (sym same) h.open_regions;
-        last = subst (λ k. c.last ≤ length c.rows + k) (sym same) h.last }
+        last = subst (λ k. c.last ≤ length c.rows + k) (sym same) h.last;
+      }
 
   base-forked : (rs : List (Region S)) (base : ℕ) (lead : Track S) → base ≤ 2 * b.budget → (rs ≡ [] → base + lead.own ≤ b.budget)
       → (base ≤ base_after_fork rs base lead) × (base_after_fork rs base lead ≤ 2 * b.budget)
@@ -136,9 +153,14 @@ module _ {S E D : Type 0} (m : Machine S E D) (b : Settings) where
       let base = base-forked c.regions c.base c.lead h.base within in
       let base_low = base.0 in let rows = h.rows in let last = h.last in
       record {
-        regions = within-forked b.budget (suc c.last) g (track_point m c.lead).state c.regions h.lead h.regions; lead = omega arith; base = base.1; rows = omega arith; generation = h.generation;
+        regions = within-forked b.budget (suc c.last) g (track_point m c.lead).state c.regions h.lead h.regions;
+        lead = omega arith;
+        base = base.1;
+        rows = omega arith;
+        generation = h.generation;
         open_regions = subst (λ k. k ≤ b.tracks) (sym more) room;
-        last = subst (λ k. suc c.last ≤ length c.rows + k) (sym more) (omega arith) }
+        last = subst (λ k. suc c.last ≤ length c.rows + k) (sym more) (omega arith);
+      }
 
   bounded-kept : (start : S) (c : Core S E D) (v : Judgement S D) → Judges m b start c v → RegionsWithin b.budget (v.region ∷ v.younger) → length c.regions ≡ suc (length v.younger)
       → Bounded b c → Bounded b (kept_core m b c v)
@@ -146,7 +168,7 @@ module _ {S E D : Type 0} (m : Machine S E D) (b : Settings) where
       let more = length-append c.rows (row_of m c v.region v.judged ∷ []) in
       let segment = within.segment in let own = j.within in let unspent = j.unspent in let rows = h.rows in let generation = h.generation in let open_regions = h.open_regions in let last = h.last in
       let pos : 0 < v.region.normal.own = normal-pos m (go m (fresh start) c.base).state v.region.normal.own
-            (sym (boundary-at m Normal (go m (fresh start) c.base).state v.region.normal j.good.chain.normal.kind j.good.chain.normal.start) ∙ j.boundary) in
+      (sym (boundary-at m Normal (go m (fresh start) c.base).state v.region.normal j.good.chain.normal.kind j.good.chain.normal.start) ∙ j.boundary) in
       record { regions = within.rest; lead = h.lead; base = omega arith; rows = omega arith; generation = omega arith; open_regions = omega arith; last = omega arith }
 
   bounded-discarded : (start : S) (c : Core S E D) (v : Judgement S D) → Judges m b start c v → Bounded b c → Bounded b (dropped_core m c v)
@@ -154,7 +176,7 @@ module _ {S E D : Type 0} (m : Machine S E D) (b : Settings) where
       let more = length-append c.rows (row_of m c v.region v.judged ∷ []) in
       let own = j.within in let unspent = j.unspent in let rows = h.rows in let generation = h.generation in
       let pos : 0 < v.region.normal.own = normal-pos m (go m (fresh start) c.base).state v.region.normal.own
-            (sym (boundary-at m Normal (go m (fresh start) c.base).state v.region.normal j.good.chain.normal.kind j.good.chain.normal.start) ∙ j.boundary) in
+      (sym (boundary-at m Normal (go m (fresh start) c.base).state v.region.normal j.good.chain.normal.kind j.good.chain.normal.start) ∙ j.boundary) in
       record { regions = tt; lead = omega arith; base = omega arith; rows = omega arith; generation = omega arith; open_regions = omega arith; last = omega arith }
 
   bounded-judged : (start : S) (c : Core S E D) (v : Judgement S D) (w : Verdict D) → Judges m b start c v → RegionsWithin b.budget (v.region ∷ v.younger) → length c.regions ≡ suc (length v.younger)
@@ -175,7 +197,7 @@ module _ {S E D : Type 0} (m : Machine S E D) (b : Settings) where
       let chosen = due-forking m b c is in
       let lead = fork_test-true m b c chosen.forks in
       bounded-forked c h lead.room (λ empty. (let within = lead-within m b start c chosen.unfinished lead.home lead.boundary empty in
-        let unspent = unfinished-unspent m b start c.base (front_home c) (front c) chosen.unfinished in omega arith))
+      let unspent = unfinished-unspent m b start c.base (front_home c) (front c) chosen.unfinished in omega arith))
 
   pub bounded-happens : (start : S) (c new : Core S E D) (x : Entry) → Good m b start c → Bounded b c → Happens m b c new x → Bounded b new
   bounded-happens start c new x g h (Lends seat n t entry can is) =

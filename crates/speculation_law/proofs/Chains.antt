@@ -1,20 +1,19 @@
 -- The chain of regions and lead, as each event leaves it.
-use Rattle.std.proofs.Common.{◌≡◌, ℕ, zero, suc, ◌+◌, ◌<◌, ◌≤◌, Bool, true, false, if◌then◌else◌, List, [], ◌∷◌, Option, Some, None, nat_eq, refl, sym, ap, ap₂, ◌∙◌, subst, arith}
+use Rattle.std.proofs.Common.{◌≡◌, ℕ, ◌<◌, Bool, true, false, if◌then◌else◌, List, [], ◌∷◌, Option, Some, None, nat_eq, refl, sym, ap, ap₂, ◌∙◌, subst, arith}
 use Rattle.speculation.specs.declared.tracks.Kind.{Kind}
 use Rattle.speculation.specs.declared.tracks.Kind.TheVariants.{Normal, Fast, Segment}
 use Rattle.speculation.specs.declared.history.Settings.{Settings}
 use Rattle.speculation.specs.Machine.{Machine}
-use Rattle.speculation.specs.Run.{Piece, Point, fresh, go, pieces}
+use Rattle.speculation.specs.Run.{Point, fresh, go, pieces}
 use Rattle.speculation.specs.Tracks.{point, meets, boundary}
 use Rattle.speculation.specs.Core.{Track, Part, Open, Closed, Between, Region, front_of, track_point, at_boundary}
 use Rattle.speculation.specs.Effects.{segment_of, region_of, crossed, forked}
-use Rattle.speculation.specs.Events.{run_on, slice, back_normals, back_regions, back_lead, released_regions, released_lead, left_over}
-use Rattle.speculation_law.specs.Facts.{NoStop, Unstopped, NormalTrack, SegmentTrack, FastTrack, Whole, Closes, FastEnd, SegmentLead, ClosedBetween, LeadAfter, Linked, Tail, Chain}
+use Rattle.speculation.specs.Events.{run_on, slice, back_normals, back_regions, back_lead, released_regions, released_lead}
+use Rattle.speculation_law.specs.Facts.{Unstopped, NormalTrack, SegmentTrack, FastTrack, Whole, SegmentLead, LeadAfter, Tail, Chain}
 use Rattle.speculation_law.proofs.Verdicts.{boundary-going}
 use Rattle.speculation_law.proofs.Running.{run-normal, run-segment, run-fast, whole-normal, whole-segment}
 
 module _ {S E D : Type 0} (m : Machine S E D) where
-
   none-below : (kind : Kind) (s : S) → Unstopped m kind s 0
   none-below kind s = record { at = λ k less. absurd (omega arith) }
 
@@ -52,12 +51,16 @@ module _ {S E D : Type 0} (m : Machine S E D) where
   -- Back
 
   module _ (b : Settings) where
-
     tail-back_by : (number : ℕ) (s : S) (part : Part S) (segment : Option Between) (r : Region S) (rs : List (Region S)) (lead : Track S) (t : Bool)
         → Tail m s part segment (r ∷ rs) lead → Tail m r.start r.part r.segment (back_normals m b number rs) lead
         → Tail m s part segment (if t then (record r { normal = run_on m r.normal (slice m b r.normal) }) ∷ rs else r ∷ back_normals m b number rs) lead
     tail-back_by number s part segment r rs lead true h rest = record {
-      link = h.link; call = h.call; normal = run-normal m b r.start r.normal h.normal; whole = whole-normal m b r.start r.normal (slice m b r.normal) h.normal h.whole; tail = h.tail }
+      link = h.link;
+      call = h.call;
+      normal = run-normal m b r.start r.normal h.normal;
+      whole = whole-normal m b r.start r.normal (slice m b r.normal) h.normal h.whole;
+      tail = h.tail;
+    }
     tail-back_by number s part segment r rs lead false h rest = record { link = h.link; call = h.call; normal = h.normal; whole = h.whole; tail = rest }
 
     tail-back : (number : ℕ) (s : S) (part : Part S) (segment : Option Between) (rs : List (Region S)) (lead : Track S)
@@ -108,27 +111,47 @@ module _ {S E D : Type 0} (m : Machine S E D) where
   lead-crossed s Open lead h kind here = record {
     fast = record {
       closes = record { least = h.least; here = sym (boundary-at Fast s lead h.kind h.start) ∙ here };
-      is = ap (λ (q : Point S E). q.state) (track_point-at Fast s lead h.kind h.start) };
+      is = ap (λ (q : Point S E). q.state) (track_point-at Fast s lead h.kind h.start);
+    };
     track = segment-first (track_point m lead).state;
-    whole = whole-first (track_point m lead).state (segment_of (track_point m lead).state) refl refl }
+    whole = whole-first (track_point m lead).state (segment_of (track_point m lead).state) refl refl;
+  }
   lead-crossed s (Closed k t) lead h kind here = absurd (let other : lead.kind ≡ Segment = h.track.kind in cc)
 
   tail-crossed : (s : S) (part : Part S) (segment : Option Between) (r : Region S) (rs : List (Region S)) (lead : Track S) → Tail m s part segment (r ∷ rs) lead
       → lead.kind ≡ Fast → at_boundary m lead ≡ true
       → Tail m s part segment (crossed (r ∷ rs) lead.own (track_point m lead).state) (segment_of (track_point m lead).state)
   tail-crossed s part segment r [] lead h kind here = record {
-    link = h.link; call = h.call; normal = h.normal; whole = h.whole; tail = record { lead = lead-crossed r.start r.part lead h.tail.lead kind here; segment = h.tail.segment } }
+    link = h.link;
+    call = h.call;
+    normal = h.normal;
+    whole = h.whole;
+    tail = record { lead = lead-crossed r.start r.part lead h.tail.lead kind here; segment = h.tail.segment };
+  }
   tail-crossed s part segment r (r2 ∷ rs) lead h kind here = record {
-    link = h.link; call = h.call; normal = h.normal; whole = h.whole; tail = tail-crossed r.start r.part r.segment r2 rs lead h.tail kind here }
+    link = h.link;
+    call = h.call;
+    normal = h.normal;
+    whole = h.whole;
+    tail = tail-crossed r.start r.part r.segment r2 rs lead h.tail kind here;
+  }
 
   -- the lead closed the youngest region
   pub chain-crossed : (s : S) (regions : List (Region S)) (lead : Track S) → Chain m s regions lead → lead.kind ≡ Fast → at_boundary m lead ≡ true
       → Chain m s (crossed regions lead.own (track_point m lead).state) (segment_of (track_point m lead).state)
   chain-crossed s [] lead h kind here = absurd (let other : lead.kind ≡ Segment = h.kind in cc)
   chain-crossed s (r ∷ []) lead h kind here = record {
-    start = h.start; call = h.call; normal = h.normal; tail = record { lead = lead-crossed s r.part lead h.tail.lead kind here; segment = h.tail.segment } }
+    start = h.start;
+    call = h.call;
+    normal = h.normal;
+    tail = record { lead = lead-crossed s r.part lead h.tail.lead kind here; segment = h.tail.segment };
+  }
   chain-crossed s (r ∷ (r2 ∷ rs)) lead h kind here = record {
-    start = h.start; call = h.call; normal = h.normal; tail = tail-crossed s r.part r.segment r2 rs lead h.tail kind here }
+    start = h.start;
+    call = h.call;
+    normal = h.normal;
+    tail = tail-crossed s r.part r.segment r2 rs lead h.tail kind here;
+  }
 
   -- Fork
 
@@ -152,32 +175,58 @@ module _ {S E D : Type 0} (m : Machine S E D) where
   lead-forked s Open lead number h kind here = absurd (let other : lead.kind ≡ Fast = h.kind in cc)
   lead-forked s (Closed k t) lead number h kind here = record {
     link = record {
-      fast = h.fast; least = h.track.least; going = segment-going t lead h.track here; whole = h.whole.held;
-      next = ap (λ (q : Point S E). q.state) (track_point-at Segment t lead h.track.kind h.track.start) };
+      fast = h.fast;
+      least = h.track.least;
+      going = segment-going t lead h.track here;
+      whole = h.whole.held;
+      next = ap (λ (q : Point S E). q.state) (track_point-at Segment t lead h.track.kind h.track.start);
+    };
     call = segment-call t lead h.track here;
     normal = normal-first number (track_point m lead).state;
     whole = whole-first (track_point m lead).state (region_of number (track_point m lead).state).normal refl refl;
-    tail = record { lead = fast-first (track_point m lead).state; segment = refl } }
+    tail = record { lead = fast-first (track_point m lead).state; segment = refl };
+  }
 
   tail-forked : (s : S) (part : Part S) (segment : Option Between) (r : Region S) (rs : List (Region S)) (lead : Track S) (number : ℕ) → Tail m s part segment (r ∷ rs) lead
       → lead.kind ≡ Segment → at_boundary m lead ≡ true
       → Tail m s part segment (forked (r ∷ rs) (record { steps = lead.own; pieces = lead.held }) (region_of number (track_point m lead).state)) (record { kind = Fast; start = (track_point m lead).state; own = 0; held = [] })
   tail-forked s part segment r [] lead number h kind here = record {
-    link = h.link; call = h.call; normal = h.normal; whole = h.whole; tail = lead-forked r.start r.part lead number h.tail.lead kind here }
+    link = h.link;
+    call = h.call;
+    normal = h.normal;
+    whole = h.whole;
+    tail = lead-forked r.start r.part lead number h.tail.lead kind here;
+  }
   tail-forked s part segment r (r2 ∷ rs) lead number h kind here = record {
-    link = h.link; call = h.call; normal = h.normal; whole = h.whole; tail = tail-forked r.start r.part r.segment r2 rs lead number h.tail kind here }
+    link = h.link;
+    call = h.call;
+    normal = h.normal;
+    whole = h.whole;
+    tail = tail-forked r.start r.part r.segment r2 rs lead number h.tail kind here;
+  }
 
   -- a region opened behind others
   pub chain-forked : (s : S) (r : Region S) (rs : List (Region S)) (lead : Track S) (number : ℕ) → Chain m s (r ∷ rs) lead → lead.kind ≡ Segment → at_boundary m lead ≡ true
       → Chain m s (forked (r ∷ rs) (record { steps = lead.own; pieces = lead.held }) (region_of number (track_point m lead).state)) (record { kind = Fast; start = (track_point m lead).state; own = 0; held = [] })
   chain-forked s r [] lead number h kind here = record {
-    start = h.start; call = h.call; normal = h.normal; tail = lead-forked s r.part lead number h.tail.lead kind here }
+    start = h.start;
+    call = h.call;
+    normal = h.normal;
+    tail = lead-forked s r.part lead number h.tail.lead kind here;
+  }
   chain-forked s r (r2 ∷ rs) lead number h kind here = record {
-    start = h.start; call = h.call; normal = h.normal; tail = tail-forked s r.part r.segment r2 rs lead number h.tail kind here }
+    start = h.start;
+    call = h.call;
+    normal = h.normal;
+    tail = tail-forked s r.part r.segment r2 rs lead number h.tail kind here;
+  }
 
   -- a region opened behind the verified part
   pub chain-opened : (s : S) (lead : Track S) (number : ℕ) → SegmentTrack m s lead → at_boundary m lead ≡ true
       → Chain m (track_point m lead).state (region_of number (track_point m lead).state ∷ []) (record { kind = Fast; start = (track_point m lead).state; own = 0; held = [] })
   chain-opened s lead number h here = record {
-    start = refl; call = segment-call s lead h here; normal = normal-first number (track_point m lead).state;
-    tail = record { lead = fast-first (track_point m lead).state; segment = refl } }
+    start = refl;
+    call = segment-call s lead h here;
+    normal = normal-first number (track_point m lead).state;
+    tail = record { lead = fast-first (track_point m lead).state; segment = refl };
+  }

@@ -1,13 +1,12 @@
 -- Due events taken apart.
-use Rattle.std.proofs.Common.{◌≡◌, ℕ, zero, suc, ◌+◌, ◌-◌, ◌<◌, ◌≤◌, Bool, true, false, ◌&&◌, List, [], ◌∷◌, Option, Some, None, length, nat_le, nat_lt, refl, sym, ap, ◌∙◌, subst, ltb-true, leb-true, leb-false, arith}
+use Rattle.std.proofs.Common.{◌≡◌, ℕ, ◌<◌, Bool, true, false, ◌&&◌, List, [], ◌∷◌, Option, Some, None, length, nat_lt, refl, subst, ltb-true}
 use Rattle.std.proofs.lemmas.Bool.{and_parts}
-use Rattle.speculation.specs.declared.tracks.Kind.{Kind}
-use Rattle.speculation.specs.declared.tracks.Kind.TheVariants.{Normal, Fast, Segment}
+use Rattle.speculation.specs.declared.tracks.Kind.TheVariants.{Fast, Segment}
 use Rattle.speculation.specs.declared.history.Settings.{Settings}
 use Rattle.speculation.specs.Machine.{Machine}
 use Rattle.speculation.specs.Verdicts.{Judged, judge}
-use Rattle.speculation.specs.Core.{Core, Track, Region, Finished, over, front, front_home, lead_home, track_point, at_boundary, is_kind, most_held}
-use Rattle.speculation.specs.Due.{Judgement, Due, Finishing, Crossing, Judging, Forking, finish_by, finish_test, cross_test, seen, judgement, verdict_due, fork_test, choose, due}
+use Rattle.speculation.specs.Core.{Core, Region, Finished, over, front, front_home, lead_home, track_point, at_boundary, is_kind, most_held}
+use Rattle.speculation.specs.Due.{Judgement, Finishing, Crossing, Judging, Forking, finish_by, finish_test, cross_test, seen, judgement, verdict_due, fork_test, choose, due}
 use Rattle.speculation_law.proofs.Names.{kind-fast, kind-segment}
 
 -- what each kind of event that is chosen says
@@ -161,7 +160,6 @@ fork_test-true m b c h =
     record { home = first.0; kind = kind-segment c.lead.kind second.0; boundary = third.0; room = ltb-true (length c.regions) b.tracks fourth.0; ready = ltb-true (length c.ready) most_held fourth.1 }
 
 module _ {S E D : Type 0} (m : Machine S E D) (b : Settings) (c : Core S E D) where
-
   pub due-finishing : (f : Finished E) → due m b c ≡ Some (Finishing f) → ChosenFinish (over c) (finish_test m b c.base (front_home c) (front c)) f
   unfolding due
   due-finishing f h = choose-finishing (over c) (finish_test m b c.base (front_home c) (front c)) (cross_test m c) (verdict_due m c c.regions) (fork_test m b c) f h

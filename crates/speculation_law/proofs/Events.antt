@@ -1,44 +1,45 @@
 -- Each entry of a history keeps what holds of the core.
-use Rattle.std.proofs.Common.{◌≡◌, ℕ, zero, suc, ◌+◌, ◌-◌, ◌<◌, ◌≤◌, Bool, true, false, not, ◌&&◌, List, [], ◌∷◌, ◌++◌, Option, Some, None, is_none, length, nat_eq, nat_lt, refl, sym, ap, ap₂, ◌∙◌, subst}
-use Rattle.std.proofs.lemmas.Bool.{and_parts, not-true}
-use Rattle.speculation.specs.declared.tracks.Kind.TheVariants.{Normal, Fast, Segment}
-use Rattle.speculation.specs.declared.tracks.Name.{Name}
-use Rattle.speculation.specs.declared.tracks.OpenLoan.{OpenLoan}
+use Rattle.std.proofs.Common.{◌≡◌, ◌-◌, ◌<◌, ◌≤◌, true, false, List, [], ◌∷◌, Some, None, refl, sym, ap, ◌∙◌, subst}
+use Rattle.speculation.specs.declared.tracks.Kind.TheVariants.{Normal}
 use Rattle.speculation.specs.declared.history.Settings.{Settings}
 use Rattle.speculation.specs.declared.history.Entry.{Entry}
-use Rattle.speculation.specs.declared.history.Entry.TheVariants.{Lend, Back, Gone, Fork, Cross, Keep, Discard, Release, Finish, Halt}
 use Rattle.speculation.specs.Machine.{Machine}
-use Rattle.speculation.specs.Run.{Point, fresh, go, pieces}
+use Rattle.speculation.specs.Run.{Point, fresh, go}
 use Rattle.speculation.specs.Tracks.{point}
-use Rattle.speculation.specs.Verdicts.{Verdict, Kept, Differs, Stopped, Late, Judged, verdict, judge}
-use Rattle.speculation.specs.Core.{Core, Track, Region, Finished, over, at_home, find_loan, find_track, front, front_of, front_name, front_home, verified, track_point, at_boundary}
+use Rattle.speculation.specs.Verdicts.{Verdict, Kept, Differs, Stopped, Late, verdict, judge}
+use Rattle.speculation.specs.Core.{Core, Region, Finished, over, at_home, front, front_of, front_name, front_home, track_point, at_boundary}
 use Rattle.speculation.specs.Due.{Judgement, Due, Finishing, Crossing, Judging, Forking, finish_test, cross_test, seen, due}
-use Rattle.speculation.specs.Effects.{judged_core, kept_core, dropped_core, effect}
-use Rattle.speculation.specs.Events.{some_if, slice, lendable, back_regions, back_lead, end_loan, back_of, gone_of, gone_live, released_core, is_entry_of, due_done, event}
+use Rattle.speculation.specs.Effects.{judged_core, dropped_core, effect}
+use Rattle.speculation.specs.Events.{event}
 use Rattle.speculation.specs.Law.{Exact}
 use Rattle.speculation_law.specs.Facts.{Chain}
 use Rattle.speculation_law.specs.Sound.{Final, Good}
-use Rattle.speculation_law.proofs.Options.{Passed, some_if-some, is_none-none}
 use Rattle.speculation_law.proofs.Verdicts.{boundary-going, judge-verdict}
 use Rattle.speculation_law.proofs.Dues.{IsJudged, due-finishing, due-crossing, due-judging, due-forking, verdict_due-some, cross_test-true, fork_test-true}
 use Rattle.speculation_law.proofs.Chains.{track_point-at}
-use Rattle.speculation_law.proofs.Fronts.{go-from, unfinished-unspent, unfinished-within}
-use Rattle.speculation_law.proofs.Judging.{KeptPart, sees-tail, judge-kept, kept-part, lead-inside, good-dropped, good-kept}
+use Rattle.speculation_law.proofs.Fronts.{unfinished-unspent, unfinished-within}
+use Rattle.speculation_law.proofs.Judging.{sees-tail, judge-kept, kept-part, lead-inside, good-dropped, good-kept}
 use Rattle.speculation_law.proofs.Leading.{good-crossed, good-forked}
 use Rattle.speculation_law.proofs.Finishing.{final-due}
 use Rattle.speculation_law.proofs.Happens.{Happens, Lends, Returns, Vanishes, Releases, Halts, Does, event-happens}
 use Rattle.speculation_law.proofs.Lending.{unfinished, good-lent, good-back, good-gone, good-halted, good-released}
 
 module _ {S E D : Type 0} (m : Machine S E D) (b : Settings) (start : S) where
-
   -- a finish
   good-finished : (c : Core S E D) (f : Finished E) → Good m b start c → Final m b start c f → over c ≡ false → Good m b start (record c { finish = Some f })
   good-finished c f g final live = record {
-    truth = g.truth; chain = g.chain; output = g.output; numbered = g.numbered; rows = g.rows; waiting = g.waiting; once = g.once;
+    truth = g.truth;
+    chain = g.chain;
+    output = g.output;
+    numbered = g.numbered;
+    rows = g.rows;
+    waiting = g.waiting;
+    once = g.once;
     lost = λ still. g.lost live;
     final = λ x is. (let same : f ≡ x = cc in
-      let old = subst (λ (y : Finished E). Final m b start c y) same final in
-      record { end = old.end; count = old.count; output = old.output; nothing = λ away. old.nothing (away-same c f c.regions away); rows = old.rows }) }
+        let old = subst (λ (y : Finished E). Final m b start c y) same final in
+        record { end = old.end; count = old.count; output = old.output; nothing = λ away. old.nothing (away-same c f c.regions away); rows = old.rows });
+  }
     where
       away-same : (c : Core S E D) (f : Finished E) (rs : List (Region S))
           → at_home (record c { finish = Some f }) (front_name (record c { finish = Some f }) rs) ≡ false
@@ -68,7 +69,7 @@ module _ {S E D : Type 0} (m : Machine S E D) (b : Settings) (start : S) where
       let going : (track_point m v.region.normal).end ≡ None = boundary-going m v.region.normal.kind v.region.normal.start v.region.normal.own j.boundary in
       let stands : track_point m v.region.normal ≡ point m Normal s v.region.normal.own = track_point-at m Normal s v.region.normal chain.normal.kind chain.normal.start in
       let sees = sees-tail m s (track_point m v.region.normal).state v.region.normal.own v.region.part v.region.segment v.younger c.lead chain.tail (ap (λ (q : Point S E). q.state) stands)
-            (lead-inside m c (g.lost live) uncrossed g.waiting) in
+      (lead-inside m c (g.lost live) uncrossed g.waiting) in
       record {
         good = good;
         live = live;
@@ -88,9 +89,9 @@ module _ {S E D : Type 0} (m : Machine S E D) (b : Settings) (start : S) where
   good-judged_by : (c : Core S E D) (v : Judgement S D) (w : Verdict D) → Exact m start → v.judged.verdict ≡ w → Judges c v → Good m b start (judged_core m b c v w)
   good-judged_by c v Kept exact is j =
       good-kept m b start c v.region v.younger v.judged exact j.good j.live j.unspent j.within j.boundary j.judged
-        (kept-part m v.region.part (track_point m v.region.normal).state c.lead
-          (judge-kept v.region.normal.own (seen m v.region.part (track_point m v.region.normal).state c.lead) v.judged j.answer is))
-        (unfinished c j.live)
+      (kept-part m v.region.part (track_point m v.region.normal).state c.lead
+      (judge-kept v.region.normal.own (seen m v.region.part (track_point m v.region.normal).state c.lead) v.judged j.answer is))
+      (unfinished c j.live)
   good-judged_by c v (Differs d) exact is j = good-discarded c v j
   good-judged_by c v Stopped exact is j = good-discarded c v j
   good-judged_by c v Late exact is j = good-discarded c v j

@@ -1,5 +1,5 @@
 -- The loan lemma: a track that was lent is still lent, and is the same, or was dropped by the first discard that followed.
-use Rattle.std.proofs.Common.{◌≡◌, ◌≢◌, ℕ, zero, suc, ◌+◌, ◌-◌, ◌<◌, ◌≤◌, Bool, true, false, not, ◌&&◌, List, [], ◌∷◌, ◌++◌, Option, Some, None, length, is_some, nat_eq, refl, sym, ap, ap₂, ◌∙◌, subst, append_assoc, append-nil, eqb-true}
+use Rattle.std.proofs.Common.{◌≡◌, ◌≢◌, ℕ, ◌-◌, Bool, true, false, List, [], ◌∷◌, ◌++◌, Option, Some, None, length, refl, sym, ap, ap₂, ◌∙◌, subst, eqb-true}
 use Rattle.speculation.specs.declared.tracks.Name.{Name}
 use Rattle.speculation.specs.declared.tracks.OpenLoan.{OpenLoan}
 use Rattle.speculation.specs.declared.history.Settings.{Settings}
@@ -8,24 +8,23 @@ use Rattle.speculation.specs.declared.history.Entry.TheVariants.{Lend, Back, Gon
 use Rattle.speculation.specs.Machine.{Machine}
 use Rattle.speculation.specs.Run.{Mark}
 use Rattle.speculation.specs.Verdicts.{Verdict, Kept, Differs, Stopped, Late, is_kept}
-use Rattle.speculation.specs.Core.{Core, Track, Region, Finished, opening, over, name_eq, lead_name, normal_name, is_lent, at_home, lead_home, find_loan, find_track, front_home, verified}
+use Rattle.speculation.specs.Core.{Core, opening, name_eq, lead_name, normal_name, at_home, find_loan, find_track, front_home, verified}
 use Rattle.speculation.specs.Due.{Judgement, Due, Finishing, Crossing, Judging, Forking, due}
 use Rattle.speculation.specs.Effects.{drop_loan, drop_loans, dropped_by, kept_core, dropped_core, judged_core, effect}
 use Rattle.speculation.specs.Events.{end_loan, gone_live, released_by, released_core, is_row_entry, is_entry_of, event, core_run}
 use Rattle.speculation.specs.Law.{Exact, IsHistory}
 use Rattle.speculation.specs.Loans.{loans_by, loans_after, seat_of, owner_of, IsForeign}
-use Rattle.speculation_law.specs.Naming.{Named, Sound, IsLive}
-use Rattle.speculation_law.specs.Fates.{first_discard, dropped_since, LoanStays, TrackStays}
-use Rattle.speculation_law.proofs.Names.{find_track-found, name_eq-true, name_eq-same, is_lent-found}
+use Rattle.speculation_law.specs.Naming.{Named, Sound}
+use Rattle.speculation_law.specs.Fates.{first_discard, dropped_since, TrackStays}
+use Rattle.speculation_law.proofs.Names.{find_track-found, name_eq-true, is_lent-found}
 use Rattle.speculation_law.proofs.Dues.{IsJudged, due-crossing, due-judging, due-forking, verdict_due-some, cross_test-true, fork_test-true}
 use Rattle.speculation_law.proofs.Happens.{Happens, Lends, Returns, Vanishes, Releases, Halts, Does, lent_core, back_core, event-happens}
 use Rattle.speculation_law.proofs.FindLoan.{find_loan-append, find_loan-other, find_loan-drop}
 use Rattle.speculation_law.proofs.LiveTracks.{find_track-back, home-apart, find_track-crossed, find_track-forked, find_track-kept, find_track-released}
 use Rattle.speculation_law.proofs.Naming.{front-home_at}
-use Rattle.speculation_law.proofs.Soundness.{sound-event, sound-opening}
+use Rattle.speculation_law.proofs.Soundness.{sound-event}
 
 module _ {S E D : Type 0} (m : Machine S E D) (b : Settings) where
-
   -- The loans are told by the entries alone
 
   loans-released : (c : Core S E D) (home : Bool) (limit : ℕ) (bytes : List Mark) → (released_by home limit c bytes).loans ≡ c.loans
@@ -103,8 +102,8 @@ module _ {S E D : Type 0} (m : Machine S E D) (b : Settings) where
       → seat_of (find_loan k (loans_after [] before)) ≢ Some l.seat → t ≡ false
   other-by c before n k l true is found told foreign =
       absurd (let same : k ≡ n = name_eq-true k n is in
-        let here : find_loan k (loans_after [] before) ≡ Some l = ap₂ (λ (x : Name) (ls : List OpenLoan). find_loan x ls) same (sym told) ∙ found in
-        foreign (ap seat_of here))
+      let here : find_loan k (loans_after [] before) ≡ Some l = ap₂ (λ (x : Name) (ls : List OpenLoan). find_loan x ls) same (sym told) ∙ found in
+      foreign (ap seat_of here))
   other-by c before n k l false is found told foreign = refl
 
   -- a loan that another seat's entry ends has another name
@@ -126,15 +125,19 @@ module _ {S E D : Type 0} (m : Machine S E D) (b : Settings) where
 
   stays-discarded : (c : Core S E D) (v : Judgement S D) (n : Name) (l : OpenLoan) (row : ℕ) → row ≡ length c.rows → find_loan n c.loans ≡ Some l → Stays n l (Discard row) c (dropped_core m c v)
   stays-discarded c v n l row is found = record {
-    loan = drop_loan (length c.rows) l; found = find_loan-drop n (length c.rows) c.loans l found; same_seat = refl;
-    fate = fate-by (length c.rows) row l.dropped is; track = λ undropped. absurd (never-undropped (length c.rows) l.dropped undropped) }
+    loan = drop_loan (length c.rows) l;
+    found = find_loan-drop n (length c.rows) c.loans l found;
+    same_seat = refl;
+    fate = fate-by (length c.rows) row l.dropped is;
+    track = λ undropped. absurd (never-undropped (length c.rows) l.dropped undropped);
+  }
 
   stays-judged : (c : Core S E D) (v : Judgement S D) (w : Verdict D) (n : Name) (l : OpenLoan) (x : Entry) → is_row_entry (length c.rows) x (is_kept w) ≡ true → IsJudged m c c.regions v
       → find_loan n c.loans ≡ Some l → Stays n l x c (judged_core m b c v w)
   stays-judged c v Kept n l (Keep row) entry j found = stays-same n l (Keep row) c (kept_core m b c v) found refl
       (λ undropped. (let home : at_home c (normal_name c v.region) ≡ true = front-home_at m b c v.region v.younger j.open_regions j.home in
-        find_track-kept m b c n v.region v.younger (home-apart m b c n (normal_name c v.region) (is_lent-found n l c.loans found undropped) home)
-        ∙ ap (λ rs. find_track (record c { regions = rs }) n) (sym j.open_regions)))
+      find_track-kept m b c n v.region v.younger (home-apart m b c n (normal_name c v.region) (is_lent-found n l c.loans found undropped) home)
+      ∙ ap (λ rs. find_track (record c { regions = rs }) n) (sym j.open_regions)))
   stays-judged c v Kept n l _ entry j found = absurd (cc)
   stays-judged c v (Differs d) n l (Discard row) entry j found = stays-discarded c v n l row (eqb-true row (length c.rows) entry) found
   stays-judged c v (Differs d) n l _ entry j found = absurd (cc)
@@ -152,8 +155,8 @@ module _ {S E D : Type 0} (m : Machine S E D) (b : Settings) where
   stays-due c (Judging v) n l x h is entry found = stays-judged c v v.judged.verdict n l x entry (verdict_due-some m c c.regions v (due-judging m b c v is).judged) found
   stays-due c Forking n l (Fork k) h is entry found = stays-same n l (Fork k) c (effect m b c Forking) found refl
       (λ undropped. (let live = h.live n l found undropped in
-        find_track-forked m b c n live.0 h.rising (find_track-found c n live.0 live.1)
-          (home-apart m b c n (lead_name c) (is_lent-found n l c.loans found undropped) (fork_test-true m b c (due-forking m b c is).forks).home)))
+      find_track-forked m b c n live.0 h.rising (find_track-found c n live.0 live.1)
+      (home-apart m b c n (lead_name c) (is_lent-found n l c.loans found undropped) (fork_test-true m b c (due-forking m b c is).forks).home)))
   stays-due c Forking n l _ h is entry found = absurd (cc)
 
   stays-at : (n : Name) (l : OpenLoan) (x y : Entry) (c k new : Core S E D) → y ≡ x → k ≡ new → Stays n l y c k → Stays n l x c new
@@ -163,19 +166,19 @@ module _ {S E D : Type 0} (m : Machine S E D) (b : Settings) where
       → owner_of before x ≢ Some l.seat → Happens m b c new x → Stays n l x c new
   stays-happens c new x n l before h told found foreign (Lends seat k t entry can is) =
       stays-at n l x (Lend seat k) c (lent_core c seat k) new (sym entry) is
-        (stays-same n l (Lend seat k) c (lent_core c seat k) (find_loan-append n c.loans (record { seat = seat; name = k; dropped = None }) l found) refl (λ undropped. refl))
+      (stays-same n l (Lend seat k) c (lent_core c seat k) (find_loan-append n c.loans (record { seat = seat; name = k; dropped = None }) l found) refl (λ undropped. refl))
   stays-happens c new x n l before h told found foreign (Returns k count l2 t entry live loan undropped tracked counted is) =
       let apart : name_eq k n ≡ false = other-name c before n k l found told (λ same. foreign (ap (owner_of before) entry ∙ same)) in
       stays-at n l x (Back k count) c (back_core m b c k) new (sym entry) is
-        (stays-same n l (Back k count) c (back_core m b c k) (find_loan-other n k c.loans apart ∙ found) refl (λ none. find_track-back m b c n k t (find_track-found c k t tracked) apart))
+      (stays-same n l (Back k count) c (back_core m b c k) (find_loan-other n k c.loans apart ∙ found) refl (λ none. find_track-back m b c n k t (find_track-found c k t tracked) apart))
   stays-happens c new x n l before h told found foreign (Vanishes k l2 entry loan is) =
       let apart : name_eq k n ≡ false = other-name c before n k l found told (λ same. foreign (ap (owner_of before) entry ∙ same)) in
       stays-at n l x (Gone k) c (gone_live c k l2.dropped) new (sym entry) is
-        (stays-same n l (Gone k) c (gone_live c k l2.dropped) (ap (find_loan n) (loans-gone c k l2.dropped) ∙ find_loan-other n k c.loans apart ∙ found) refl (λ none. track-gone c n k l2.dropped))
+      (stays-same n l (Gone k) c (gone_live c k l2.dropped) (ap (find_loan n) (loans-gone c k l2.dropped) ∙ find_loan-other n k c.loans apart ∙ found) refl (λ none. track-gone c n k l2.dropped))
   stays-happens c new x n l before h told found foreign (Releases count entry some counted is) =
       stays-at n l x (Release count) c (released_core b c) new (sym entry) is
-        (stays-same n l (Release count) c (released_core b c) (ap (find_loan n) (loans-released c (front_home c) (b.budget - c.base) (verified b c)) ∙ found) refl
-          (λ undropped. find_track-released m b c n (front_home c) (b.budget - c.base) (verified b c) refl (is_lent-found n l c.loans found undropped)))
+      (stays-same n l (Release count) c (released_core b c) (ap (find_loan n) (loans-released c (front_home c) (b.budget - c.base) (verified b c)) ∙ found) refl
+      (λ undropped. find_track-released m b c n (front_home c) (b.budget - c.base) (verified b c) refl (is_lent-found n l c.loans found undropped)))
   stays-happens c new x n l before h told found foreign (Halts seat entry live is) =
       stays-at n l x (Halt seat) c (record c { halted = true }) new (sym entry) is (stays-same n l (Halt seat) c (record c { halted = true }) found refl (λ undropped. refl))
   stays-happens c new x n l before h told found foreign (Does d due_is entry is) =
@@ -212,14 +215,14 @@ module _ {S E D : Type 0} (m : Machine S E D) (b : Settings) where
       let fate : rest.stays.loan.dropped ≡ dropped_since l.dropped (x ∷ xs) = rest.stays.fate ∙ ap (λ o. dropped_since o xs) h.fate ∙ since-cons x xs l.dropped in
       record {
         stays = record { loan = rest.stays.loan; found = rest.stays.found; same_seat = rest.stays.same_seat ∙ h.same_seat; fate = fate };
-        track = λ undropped. rest.track undropped ∙ h.track (since-none h.loan.dropped xs (sym rest.stays.fate ∙ undropped)) }
+        track = λ undropped. rest.track undropped ∙ h.track (since-none h.loan.dropped xs (sym rest.stays.fate ∙ undropped));
+      }
 
   loans-snoc : (ls : List OpenLoan) (before : List Entry) (x : Entry) → loans_after ls (before ++ (x ∷ [])) ≡ loans_by (loans_after ls before) x
   loans-snoc ls [] x = refl
   loans-snoc ls (y ∷ before) x = loans-snoc (loans_by ls y) before x
 
   module _ (start : S) (exact : Exact m start) where
-
     later-by : (x : Entry) (xs : List Entry) (c new : Core S E D) (n : Name) (l : OpenLoan) (seat : ℕ) (before : List Entry) (o : Option (Core S E D)) → event m b c x ≡ o → Sound m b start c
         → c.loans ≡ loans_after [] before → find_loan n c.loans ≡ Some l → l.seat ≡ seat → IsForeign seat before (x ∷ xs) → core_run m b o xs ≡ Some new
         → ((mid : Core S E D) (l2 : OpenLoan) → o ≡ Some mid → Sound m b start mid → mid.loans ≡ loans_after [] (before ++ (x ∷ [])) → find_loan n mid.loans ≡ Some l2 → l2.seat ≡ seat → TrackStays n l2 xs mid new)
@@ -243,7 +246,7 @@ module _ {S E D : Type 0} (m : Machine S E D) (b : Settings) where
         let same : c ≡ k = cc in
         let here : event m b c x ≡ event m b k x = ap (λ (q : Core S E D). event m b q x) same in
         later-by x xs c new n l seat before (event m b k x) here sound told found own foreign h
-          (λ mid l2 at sound2 told2 found2 own2. later-run xs (event m b k x) mid new n l2 seat (before ++ (x ∷ [])) at sound2 told2 found2 own2 foreign.1 h)
+        (λ mid l2 at sound2 told2 found2 own2. later-run xs (event m b k x) mid new n l2 seat (before ++ (x ∷ [])) at sound2 told2 found2 own2 foreign.1 h)
 
     -- of every legal history that goes on
     pub loan-later : (before rest : List Entry) (c new : Core S E D) (n : Name) (l : OpenLoan) → Sound m b start c → IsHistory m b start before c → core_run m b (Some c) rest ≡ Some new

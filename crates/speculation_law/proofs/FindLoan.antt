@@ -1,9 +1,9 @@
 -- The loan of a name, and how each event leaves it.
-use Rattle.std.proofs.Common.{◌≡◌, ℕ, zero, suc, ◌+◌, ◌<◌, ◌≤◌, Bool, true, false, not, ◌&&◌, if◌then◌else◌, List, [], ◌∷◌, ◌++◌, Option, Some, None, is_none, nat_eq, refl, sym, ap, ap₂, ◌∙◌, subst}
+use Rattle.std.proofs.Common.{◌≡◌, ℕ, Bool, true, false, if◌then◌else◌, List, [], ◌∷◌, ◌++◌, Option, Some, None, refl, sym, ap, ◌∙◌, subst}
 use Rattle.speculation.specs.declared.tracks.Name.{Name}
 use Rattle.speculation.specs.declared.tracks.OpenLoan.{OpenLoan}
-use Rattle.speculation.specs.Core.{name_eq, is_lent, find_loan}
-use Rattle.speculation.specs.Effects.{dropped_by, drop_loan, drop_loans}
+use Rattle.speculation.specs.Core.{name_eq, find_loan}
+use Rattle.speculation.specs.Effects.{drop_loan, drop_loans}
 use Rattle.speculation.specs.Events.{end_loan}
 use Rattle.speculation_law.specs.Naming.{Distinct}
 use Rattle.speculation_law.proofs.Names.{name_eq-true, name_eq-same, name_eq-refl}
@@ -58,6 +58,7 @@ find_loan-appended n (y ∷ ls) x l h = more-by (name_eq n y.name) refl h (find_
     shifted : name_eq n y.name ≡ false → FoundAppended n ls x l → FoundAppended n (y ∷ ls) x l
     shifted is (Older found) = Older (found-later n y ls is ∙ found)
     shifted is (Newest none name same) = Newest (found-later n y ls is ∙ none) name same
+
     more-by : (t : Bool) → name_eq n y.name ≡ t → (if t then Some y else find_loan n (ls ++ (x ∷ []))) ≡ Some l → (find_loan n (ls ++ (x ∷ [])) ≡ Some l → FoundAppended n ls x l)
         → FoundAppended n (y ∷ ls) x l
     more-by true is h rest = Older (ap (λ u. if u then Some y else find_loan n ls) is ∙ h)
@@ -71,6 +72,7 @@ find_loan-other n k (y ∷ ls) h = other-by (name_eq k y.name) refl (find_loan-o
     apart : name_eq k y.name ≡ true → (t : Bool) → name_eq n y.name ≡ t → t ≡ false
     apart same true is = absurd (let one : k ≡ y.name = name_eq-true k y.name same in let two : n ≡ y.name = name_eq-true n y.name is in let both : name_eq k n ≡ true = name_eq-same k n (one ∙ sym two) in cc)
     apart same false is = refl
+
     other-by : (t : Bool) → name_eq k y.name ≡ t → find_loan n (end_loan k ls) ≡ find_loan n ls → find_loan n (if t then ls else y ∷ end_loan k ls) ≡ find_loan n (y ∷ ls)
     other-by true is rest = sym (found-later n y ls (apart is (name_eq n y.name) refl))
     other-by false is rest = ap (λ o. if name_eq n y.name then Some y else o) rest
@@ -155,6 +157,7 @@ Distinct-append (y ∷ ls) x d h = split (name_eq x.name y.name) refl h (Distinc
     apart : name_eq x.name y.name ≡ false → (t : Bool) → name_eq y.name x.name ≡ t → t ≡ false
     apart differ true is = absurd (let same : y.name ≡ x.name = name_eq-true y.name x.name is in let both : name_eq x.name y.name ≡ true = name_eq-same x.name y.name (sym same) in cc)
     apart differ false is = refl
+
     split : (t : Bool) → name_eq x.name y.name ≡ t → (if t then Some y else find_loan x.name ls) ≡ None → (find_loan x.name ls ≡ None → Distinct (ls ++ (x ∷ []))) → Distinct (y ∷ (ls ++ (x ∷ [])))
     split true is h rest = absurd (cc)
     split false is h rest =

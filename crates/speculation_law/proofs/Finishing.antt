@@ -1,20 +1,19 @@
 -- A finish is that of the program alone.
-use Rattle.std.proofs.Common.{◌≡◌, ℕ, zero, suc, ◌+◌, ◌-◌, ◌<◌, ◌≤◌, min, Bool, true, false, ◌&&◌, List, [], ◌∷◌, ◌++◌, Option, Some, None, length, nat_le, refl, sym, ap, ap₂, ◌∙◌, subst, inl, inr, append-nil, leb-true, leb-false, arith}
+use Rattle.std.proofs.Common.{◌≡◌, ℕ, ◌+◌, ◌-◌, ◌<◌, ◌≤◌, min, Bool, true, false, ◌&&◌, List, [], ◌∷◌, ◌++◌, Some, None, length, nat_le, sym, ap, ◌∙◌, subst, inl, inr, append-nil, leb-true, leb-false, arith}
 use Rattle.std.proofs.lemmas.Bool.{cases_lt}
 use Rattle.speculation.specs.declared.tracks.Kind.{Kind}
-use Rattle.speculation.specs.declared.tracks.Kind.TheVariants.{Normal, Fast, Segment}
+use Rattle.speculation.specs.declared.tracks.Kind.TheVariants.{Normal}
 use Rattle.speculation.specs.declared.history.Settings.{Settings}
 use Rattle.speculation.specs.Machine.{Machine}
-use Rattle.speculation.specs.Run.{Mark, Piece, Point, marks, marks_upto, fresh, go, out, taken}
-use Rattle.speculation.specs.Tracks.{point, boundary}
+use Rattle.speculation.specs.Run.{Point, marks, marks_upto, fresh, go, out, taken}
+use Rattle.speculation.specs.Tracks.{boundary}
 use Rattle.speculation.specs.Ledger.{ledger, ledger_from}
 use Rattle.speculation.specs.Core.{Core, Track, Region, Finished, front, front_of, front_home, track_point, at_boundary, is_kind}
 use Rattle.speculation.specs.Due.{finish_test}
 use Rattle.speculation.proofs.Runs.{go-stays, pieces-stay, going-below, taken-going, taken-stays}
-use Rattle.speculation.proofs.Outputs.{out-add}
 use Rattle.speculation_law.specs.Facts.{Chain}
-use Rattle.speculation_law.specs.Sound.{Numbered, Final, Good}
-use Rattle.speculation_law.proofs.Verdicts.{boundary-ended, boundary-going, taken-all}
+use Rattle.speculation_law.specs.Sound.{Final, Good}
+use Rattle.speculation_law.proofs.Verdicts.{boundary-ended, taken-all}
 use Rattle.speculation_law.proofs.Walks.{ledger_from-zero, ledger_from-unclosed, ledger_from-segment_ends, ledger_from-segment_spent}
 use Rattle.speculation_law.proofs.Pieces.{marks_upto-none}
 use Rattle.speculation_law.proofs.Dues.{FinishCase, IsSpent, IsEnded, IsPast, IsReached, finish_by-case}
@@ -22,7 +21,6 @@ use Rattle.speculation_law.proofs.Chains.{boundary-at}
 use Rattle.speculation_law.proofs.Fronts.{go-from, front-stands, before-front}
 
 module _ {S E D : Type 0} (m : Machine S E D) (b : Settings) (start : S) where
-
   -- The rows are whole
 
   -- where the front took more than is left
@@ -40,8 +38,9 @@ module _ {S E D : Type 0} (m : Machine S E D) (b : Settings) (start : S) where
   rows-reached left s number at (r ∷ rs) lead h same going not =
       let inside : boundary m Normal s r.normal.own ≡ false = sym (boundary-at m Normal s r.normal h.normal.kind h.normal.start) ∙ closed-normal r.normal.kind (at_boundary m r.normal) h.normal.kind not in
       ledger_from-unclosed m left s number at h.call (λ i pos le. elim (cases_lt i r.normal.own) [
-          inl less ↦ (h.normal.least.at i less).inside
-        | inr more ↦ (let is : r.normal.own ≡ i = omega arith in subst (λ n. boundary m Normal s n ≡ false) is inside) ])
+        | inl less ↦ (h.normal.least.at i less).inside
+        | inr more ↦ (let is : r.normal.own ≡ i = omega arith in subst (λ n. boundary m Normal s n ≡ false) is inside)
+      ])
 
   -- where it ended
   rows-ended : (left : ℕ) (s : S) (number at : ℕ) (regions : List (Region S)) (lead : Track S) (e : E) → Chain m s regions lead
@@ -49,10 +48,11 @@ module _ {S E D : Type 0} (m : Machine S E D) (b : Settings) (start : S) where
   rows-ended left s number at [] lead e h ended = ledger_from-segment_ends m lead.own left s number at e h.least ended
   rows-ended left s number at (r ∷ rs) lead e h ended =
       ledger_from-unclosed m left s number at h.call (λ i pos le. elim (cases_lt i r.normal.own) [
-          inl less ↦ (h.normal.least.at i less).inside
+        | inl less ↦ (h.normal.least.at i less).inside
         | inr more ↦ (let rest = i - r.normal.own in let whole : r.normal.own + rest ≡ i = omega arith in
             let stays : (go m (fresh s) i).end ≡ Some e = ap (λ n. (go m (fresh s) n).end) (sym whole) ∙ ap (λ (q : Point S E). q.end) (go-stays m (fresh s) r.normal.own rest e ended) ∙ ended in
-            boundary-ended m Normal s i e stays) ])
+            boundary-ended m Normal s i e stays)
+      ])
 
   rows-all : (c : Core S E D) → Good m b start c → ledger_from m (b.budget - c.base) (go m (fresh start) c.base).state (length c.rows) c.base ≡ [] → c.rows ≡ ledger m start b.budget
   rows-all c g none = sym (g.rows ∙ ap (λ xs. c.rows ++ xs) none ∙ append-nil c.rows)
@@ -69,7 +69,8 @@ module _ {S E D : Type 0} (m : Machine S E D) (b : Settings) (start : S) where
     count = sym (taken-going m (fresh start) b.budget going);
     output = g.output ∙ ap (out m (fresh start)) (let all : min b.budget (c.base + (front c).own) ≡ b.budget = omega arith in all);
     nothing = nothing;
-    rows = rows-all c g none }
+    rows = rows-all c g none;
+  }
 
   out-stays : (p : Point S E) (a n : ℕ) (e : E) → (go m p a).end ≡ Some e → out m p (a + n) ≡ out m p a
   unfolding out
@@ -98,7 +99,7 @@ module _ {S E D : Type 0} (m : Machine S E D) (b : Settings) (start : S) where
   final-past : (c : Core S E D) → Good m b start c → front_home c ≡ true → c.base < b.budget → b.budget - c.base < (front c).own → Final m b start c (record { end = None; count = b.budget })
   final-past c g home unspent past =
       final-spent c g (before-front m b start c.base c.regions c.lead g.truth g.chain b.budget (omega arith)) (omega arith)
-        (rows-past (b.budget - c.base) (go m (fresh start) c.base).state (length c.rows) c.base c.regions c.lead g.chain past) (nothing-home c home)
+      (rows-past (b.budget - c.base) (go m (fresh start) c.base).state (length c.rows) c.base c.regions c.lead g.chain past) (nothing-home c home)
 
   final-reached : (c : Core S E D) → Good m b start c → front_home c ≡ true → c.base < b.budget → (track_point m (front c)).end ≡ None → b.budget - c.base ≡ (front c).own
       → (is_kind (front c).kind Normal && at_boundary m (front c)) ≡ false → Final m b start c (record { end = None; count = b.budget })
@@ -108,18 +109,18 @@ module _ {S E D : Type 0} (m : Machine S E D) (b : Settings) (start : S) where
       let none : (go m (fresh start) (c.base + (front c).own)).end ≡ None = sym (ap (λ (q : Point S E). q.end) stands) ∙ going in
       let local : (go m (fresh (go m (fresh start) c.base).state) (front c).own).end ≡ None = ap (λ (q : Point S E). q.end) (go-from m b start c.base (front c).own g.truth) ∙ none in
       final-spent c g (subst (λ n. (go m (fresh start) n).end ≡ None) whole none) (omega arith)
-        (rows-reached (b.budget - c.base) (go m (fresh start) c.base).state (length c.rows) c.base c.regions c.lead g.chain same local not) (nothing-home c home)
+      (rows-reached (b.budget - c.base) (go m (fresh start) c.base).state (length c.rows) c.base c.regions c.lead g.chain same local not) (nothing-home c home)
 
   final-over : (c : Core S E D) → Good m b start c → b.budget ≤ c.base → Final m b start c (record { end = None; count = b.budget })
   final-over c g spent =
       let none : b.budget - c.base ≡ 0 = omega arith in
       final-spent c g (going-below m (fresh start) b.budget c.base spent g.truth) (omega arith)
-        (ap (λ l. ledger_from m l (go m (fresh start) c.base).state (length c.rows) c.base) none ∙ ledger_from-zero m (go m (fresh start) c.base).state (length c.rows) c.base)
-        (λ away. marks_upto-none 0 (front c).own (b.budget - c.base) (front c).held g.numbered (omega arith))
+      (ap (λ l. ledger_from m l (go m (fresh start) c.base).state (length c.rows) c.base) none ∙ ledger_from-zero m (go m (fresh start) c.base).state (length c.rows) c.base)
+      (λ away. marks_upto-none 0 (front c).own (b.budget - c.base) (front c).held g.numbered (omega arith))
 
   final-case : (c : Core S E D) (f : Finished E) → Good m b start c
       → FinishCase b.budget (c.base + (front c).own) (nat_le b.budget c.base) (front_home c) (track_point m (front c)).end (nat_le (front c).own (b.budget - c.base)) (nat_le (b.budget - c.base) (front c).own)
-          (is_kind (front c).kind Normal && at_boundary m (front c)) f
+      (is_kind (front c).kind Normal && at_boundary m (front c)) f
       → Final m b start c f
   final-case c f g (IsSpent spent is) = subst (λ (x : Finished E). Final m b start c x) is (final-over c g (leb-true b.budget c.base spent))
   final-case c f g (IsEnded e unspent home ended within is) =
@@ -135,4 +136,4 @@ module _ {S E D : Type 0} (m : Machine S E D) (b : Settings) (start : S) where
   pub final-due : (c : Core S E D) (f : Finished E) → Good m b start c → finish_test m b c.base (front_home c) (front c) ≡ Some f → Final m b start c f
   final-due c f g h =
       final-case c f g (finish_by-case b.budget (c.base + (front c).own) (nat_le b.budget c.base) (front_home c) (track_point m (front c)).end (nat_le (front c).own (b.budget - c.base)) (nat_le (b.budget - c.base) (front c).own)
-        (is_kind (front c).kind Normal && at_boundary m (front c)) f h)
+      (is_kind (front c).kind Normal && at_boundary m (front c)) f h)

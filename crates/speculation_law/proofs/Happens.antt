@@ -1,5 +1,5 @@
 -- What an allowed entry of a history says of the core before and after it.
-use Rattle.std.proofs.Common.{◌≡◌, ℕ, suc, ◌<◌, Bool, true, false, not, ◌&&◌, List, [], ◌∷◌, ◌++◌, Option, Some, None, is_none, length, nat_eq, nat_lt, refl, ltb-true, eqb-true}
+use Rattle.std.proofs.Common.{◌≡◌, ℕ, ◌<◌, true, false, not, ◌&&◌, [], ◌∷◌, ◌++◌, Option, Some, None, is_none, length, nat_eq, nat_lt, refl, ltb-true, eqb-true}
 use Rattle.std.proofs.lemmas.Bool.{and_parts, not-true}
 use Rattle.speculation.specs.declared.tracks.Name.{Name}
 use Rattle.speculation.specs.declared.tracks.OpenLoan.{OpenLoan}
@@ -10,8 +10,8 @@ use Rattle.speculation.specs.Machine.{Machine}
 use Rattle.speculation.specs.Core.{Core, Track, over, find_loan, find_track, verified}
 use Rattle.speculation.specs.Due.{Due, due}
 use Rattle.speculation.specs.Effects.{effect}
-use Rattle.speculation.specs.Events.{some_if, slice, lendable, back_regions, back_lead, end_loan, back_of, gone_of, gone_live, released_core, is_entry_of, due_done, event}
-use Rattle.speculation_law.proofs.Options.{Passed, some_if-some, is_none-none}
+use Rattle.speculation.specs.Events.{slice, lendable, back_regions, back_lead, end_loan, back_of, gone_of, gone_live, released_core, is_entry_of, due_done, event}
+use Rattle.speculation_law.proofs.Options.{some_if-some, is_none-none}
 use Rattle.speculation_law.proofs.Lending.{Lendable, lendable-true}
 
 -- the core with a loan added
@@ -25,14 +25,13 @@ back_core m b c n = record c { regions = back_regions m b n.normal n.region c.re
 pub data Happens {S E D : Type 0} (m : Machine S E D) (b : Settings) (c new : Core S E D) (x : Entry) : Type 0 where
   Lends : (seat : ℕ) (n : Name) (t : Track S) → x ≡ Lend seat n → Lendable m b c n t → lent_core c seat n ≡ new → Happens m b c new x
   Returns : (n : Name) (count : ℕ) (l : OpenLoan) (t : Track S) → x ≡ Back n count → over c ≡ false → find_loan n c.loans ≡ Some l → l.dropped ≡ None
-    → find_track c n ≡ Some t → count ≡ slice m b t → back_core m b c n ≡ new → Happens m b c new x
+      → find_track c n ≡ Some t → count ≡ slice m b t → back_core m b c n ≡ new → Happens m b c new x
   Vanishes : (n : Name) (l : OpenLoan) → x ≡ Gone n → find_loan n c.loans ≡ Some l → gone_live c n l.dropped ≡ new → Happens m b c new x
   Releases : (count : ℕ) → x ≡ Release count → 0 < count → count ≡ length (verified b c) → released_core b c ≡ new → Happens m b c new x
   Halts : (seat : ℕ) → x ≡ Halt seat → over c ≡ false → record c { halted = true } ≡ new → Happens m b c new x
   Does : (d : Due S E D) → due m b c ≡ Some d → is_entry_of c d x ≡ true → effect m b c d ≡ new → Happens m b c new x
 
 module _ {S E D : Type 0} (m : Machine S E D) (b : Settings) where
-
   does-by : (c new : Core S E D) (x : Entry) (o : Option (Due S E D)) → due m b c ≡ o → due_done m b c x o ≡ Some new → Happens m b c new x
   does-by c new x None is h = absurd (cc)
   does-by c new x (Some d) is h = (let passed = some_if-some (is_entry_of c d x) (effect m b c d) new h in Does d is passed.passes passed.is)

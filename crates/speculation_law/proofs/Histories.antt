@@ -1,26 +1,22 @@
 -- The law of histories.
-use Rattle.std.proofs.Common.{◌≡◌, ℕ, zero, suc, ◌+◌, ◌-◌, ◌<◌, ◌≤◌, min, Bool, true, false, if◌then◌else◌, List, [], ◌∷◌, ◌++◌, Option, Some, None, length, refl, sym, ap, ap₂, ◌∙◌, subst, append_assoc, append-nil, arith}
-use Rattle.speculation.specs.declared.tracks.Kind.TheVariants.{Normal, Fast, Segment}
-use Rattle.speculation.specs.declared.tracks.Name.{Name}
+use Rattle.std.proofs.Common.{◌≡◌, ℕ, ◌+◌, ◌-◌, ◌≤◌, min, Bool, true, false, if◌then◌else◌, List, [], ◌∷◌, ◌++◌, Option, Some, None, length, refl, sym, ap, ◌∙◌, subst, append_assoc, append-nil, arith}
+use Rattle.speculation.specs.declared.tracks.Kind.TheVariants.{Fast, Segment}
 use Rattle.speculation.specs.declared.history.Settings.{Settings}
 use Rattle.speculation.specs.declared.history.Entry.{Entry}
 use Rattle.speculation.specs.Machine.{Machine}
-use Rattle.speculation.specs.Run.{Mark, Point, marks_upto, fresh, go, pieces, out, taken}
+use Rattle.speculation.specs.Run.{marks_upto, fresh, go, pieces, out}
 use Rattle.speculation.specs.Record.{alone, output_of, IsPrefixOf}
-use Rattle.speculation.specs.Ledger.{Row, ledger, ledger_from}
-use Rattle.speculation.specs.Core.{Core, Track, Finished, opening, front, front_home, verified}
+use Rattle.speculation.specs.Ledger.{ledger, ledger_from}
+use Rattle.speculation.specs.Core.{Core, Finished, opening, front, front_home, verified}
 use Rattle.speculation.specs.Events.{event, core_run}
 use Rattle.speculation.specs.Law.{Exact, IsHistory, IsPartial, IsComplete}
 use Rattle.speculation.proofs.Outputs.{out-add}
 use Rattle.speculation.proofs.Records.{output-alone, end-alone, count-alone}
-use Rattle.speculation_law.specs.Facts.{Chain}
 use Rattle.speculation_law.specs.Sound.{Final, Good}
-use Rattle.speculation_law.proofs.Pieces.{out-zero}
 use Rattle.speculation_law.proofs.Chains.{segment-first}
 use Rattle.speculation_law.proofs.Events.{good-event}
 
 module _ {S E D : Type 0} (m : Machine S E D) (b : Settings) (start : S) where
-
   -- the opening core
   pub good-opening : Good m b start (opening start)
   unfolding go out pieces ledger
@@ -51,9 +47,10 @@ module _ {S E D : Type 0} (m : Machine S E D) (b : Settings) (start : S) where
 
   shown-by : (c : Core S E D) (home : Bool) → IsPrefixOf (c.released ++ (c.ready ++ (if home then marks_upto (b.budget - c.base) (front c).held else []))) (c.released ++ (c.ready ++ marks_upto (b.budget - c.base) (front c).held))
   shown-by c true = ([], append-nil (c.released ++ (c.ready ++ marks_upto (b.budget - c.base) (front c).held)))
-  shown-by c false =
-      (marks_upto (b.budget - c.base) (front c).held,
-        append_assoc c.released (c.ready ++ []) (marks_upto (b.budget - c.base) (front c).held) ∙ ap (λ ms. c.released ++ (ms ++ marks_upto (b.budget - c.base) (front c).held)) (append-nil c.ready))
+  shown-by c false = (
+    marks_upto (b.budget - c.base) (front c).held,
+    append_assoc c.released (c.ready ++ []) (marks_upto (b.budget - c.base) (front c).held) ∙ ap (λ ms. c.released ++ (ms ++ marks_upto (b.budget - c.base) (front c).held)) (append-nil c.ready),
+  )
 
   shown : (c : Core S E D) → IsPrefixOf (c.released ++ verified b c) (c.released ++ (c.ready ++ marks_upto (b.budget - c.base) (front c).held))
   unfolding verified
@@ -74,10 +71,10 @@ module _ {S E D : Type 0} (m : Machine S E D) (b : Settings) (start : S) where
   partial-good c g =
       let k = min b.budget (c.base + (front c).own) in
       let here : IsPrefixOf (c.released ++ verified b c) (out m (fresh start) k)
-          = prefix-at (c.released ++ verified b c) (c.released ++ (c.ready ++ marks_upto (b.budget - c.base) (front c).held)) (out m (fresh start) k) g.output (shown c) in
+      = prefix-at (c.released ++ verified b c) (c.released ++ (c.ready ++ marks_upto (b.budget - c.base) (front c).held)) (out m (fresh start) k) g.output (shown c) in
       record {
         output = prefix-at (c.released ++ verified b c) (out m (fresh start) b.budget) (output_of (alone m start b.budget)) (sym (output-alone m start b.budget))
-          (prefix-trans (c.released ++ verified b c) (out m (fresh start) k) (out m (fresh start) b.budget) here (out-prefix k (omega arith)));
+            (prefix-trans (c.released ++ verified b c) (out m (fresh start) k) (out m (fresh start) b.budget) here (out-prefix k (omega arith)));
         rows = (ledger_from m (b.budget - c.base) (go m (fresh start) c.base).state (length c.rows) c.base, sym g.rows);
       }
 
@@ -95,7 +92,8 @@ module _ {S E D : Type 0} (m : Machine S E D) (b : Settings) (start : S) where
     end = h.end ∙ sym (end-alone m start b.budget);
     count = h.count ∙ sym (count-alone m start b.budget);
     output = ap (λ ms. c.released ++ ms) (final-verified c h.nothing) ∙ h.output ∙ sym (output-alone m start b.budget);
-    rows = h.rows }
+    rows = h.rows;
+  }
 
   -- the law: what comes out of any legal history is a prefix, and all of it where the history has a finish
   pub law-partial : (entries : List Entry) (c : Core S E D) → Exact m start → IsHistory m b start entries c → IsPartial m b start c

@@ -1,33 +1,30 @@
 -- Keep and Discard: the oldest region is settled, and its row is that of the ledger.
-use Rattle.std.proofs.Common.{◌≡◌, ℕ, zero, suc, ◌+◌, ◌-◌, ◌<◌, ◌≤◌, min, Bool, true, false, not, ◌&&◌, if◌then◌else◌, List, [], ◌∷◌, ◌++◌, Option, Some, None, length, nat_le, nat_lt, refl, sym, ap, ap₂, ◌∙◌, subst, inl, inr, append_assoc, append-nil, length-append, arith}
-use Rattle.std.proofs.lemmas.Bool.{cases_lt, not-false, and_from}
-use Rattle.speculation.specs.declared.tracks.Kind.{Kind}
+use Rattle.std.proofs.Common.{◌≡◌, ℕ, zero, suc, ◌+◌, ◌-◌, ◌<◌, ◌≤◌, min, Bool, true, false, not, ◌&&◌, if◌then◌else◌, List, [], ◌∷◌, ◌++◌, Option, Some, None, length, nat_le, nat_lt, refl, sym, ap, ap₂, ◌∙◌, subst, inl, inr, append_assoc, length-append, arith}
+use Rattle.std.proofs.lemmas.Bool.{cases_lt, and_from}
 use Rattle.speculation.specs.declared.tracks.Kind.TheVariants.{Normal, Fast, Segment}
 use Rattle.speculation.specs.declared.history.Settings.{Settings}
 use Rattle.speculation.specs.Machine.{Machine}
-use Rattle.speculation.specs.Run.{Mark, Piece, Point, marks, marks_upto, fresh, go, pieces, out}
+use Rattle.speculation.specs.Run.{Mark, Point, marks, marks_upto, fresh, go, pieces, out}
 use Rattle.speculation.specs.Tracks.{point, meets, boundary}
-use Rattle.speculation.specs.Verdicts.{Verdict, Kept, Differs, Stopped, Late, Judged, Seen, Running, Ended, Met, judge, compared, verdict}
+use Rattle.speculation.specs.Verdicts.{Kept, Differs, Stopped, Late, Judged, Seen, Running, Ended, Met, judge, compared, verdict}
 use Rattle.speculation.specs.Ledger.{Row, row_at, ledger, ledger_from}
-use Rattle.speculation.specs.Core.{Core, Track, Part, Open, Closed, Between, Region, Finished, over, front, front_of, front_home, lead_home, lead_name, at_home, is_lent, is_named, track_point, at_boundary, is_kind}
-use Rattle.speculation.specs.Due.{Judgement, finish_test, cross_test, seen, seen_lead}
-use Rattle.speculation.specs.Effects.{segment_of, row_of, between_steps, between_marks, kept_core, dropped_core, drop_loans}
+use Rattle.speculation.specs.Core.{Core, Track, Part, Open, Closed, Between, Region, Finished, over, front_of, lead_home, lead_name, is_lent, is_named, track_point, at_boundary, is_kind}
+use Rattle.speculation.specs.Due.{cross_test, seen, seen_lead}
+use Rattle.speculation.specs.Effects.{segment_of, row_of, between_steps, between_marks, kept_core, dropped_core}
 use Rattle.speculation.specs.Law.{Exact}
-use Rattle.speculation.proofs.Runs.{go-add, going-below}
-use Rattle.speculation_law.specs.Facts.{NoStop, Unstopped, NormalTrack, SegmentTrack, FastTrack, Whole, Closes, FastEnd, SegmentLead, ClosedBetween, LeadAfter, Linked, Tail, Chain}
+use Rattle.speculation_law.specs.Facts.{NoStop, Unstopped, SegmentTrack, FastTrack, Whole, FastEnd, Linked, Tail, Chain}
 use Rattle.speculation_law.specs.Sees.{Sees}
-use Rattle.speculation_law.specs.Sound.{Numbered, count_lent, Final, Good}
+use Rattle.speculation_law.specs.Sound.{Good}
 use Rattle.speculation_law.proofs.Names.{count_lent-drop_loans}
-use Rattle.speculation_law.proofs.Verdicts.{boundary-going, judge-verdict}
+use Rattle.speculation_law.proofs.Verdicts.{boundary-going}
 use Rattle.speculation_law.proofs.Walks.{fresh-point, ledger_from-region, ledger_from-segment}
-use Rattle.speculation_law.proofs.Pieces.{marks_upto-pieces, out-min, out-zero}
+use Rattle.speculation_law.proofs.Pieces.{marks_upto-pieces, out-min}
 use Rattle.speculation_law.proofs.Chains.{segment-first, whole-first, track_point-at, boundary-at}
-use Rattle.speculation_law.proofs.Fronts.{Shows, go-from, shows-good, shows-whole, shows-settled, unfinished-unspent, unfinished-within}
+use Rattle.speculation_law.proofs.Fronts.{Shows, go-from, shows-good, shows-whole, shows-settled}
 
 -- What is seen
 
 module _ {S E D : Type 0} (m : Machine S E D) where
-
   pub tail-open : (s : S) (segment : Option Between) (rs : List (Region S)) (lead : Track S) → Tail m s Open segment rs lead → FastTrack m s lead
   tail-open s segment [] lead h = h.lead
   tail-open s segment (r ∷ rs) lead h = absurd h.link
@@ -42,10 +39,13 @@ module _ {S E D : Type 0} (m : Machine S E D) where
 
   sees-lead : (s : S) (n : ℕ) (lead : Track S) (o : Option E) → FastTrack m s lead → (point m Fast s lead.own).end ≡ o → boundary m Fast s lead.own ≡ false → Sees m s n (seen_lead {D = D} lead.own o)
   sees-lead s n lead (Some e) h end inside = (h.least, (e, end))
-  sees-lead s n lead None h end inside = record { at = λ k less. elim (cases_lt k lead.own) [
-      inl low ↦ h.least.at k low
-    | inr high ↦ (let same : lead.own ≡ k = omega arith in
-        let here : NoStop m Fast s lead.own = record { going = end; inside = inside } in subst (λ i. NoStop m Fast s i) same here) ] }
+  sees-lead s n lead None h end inside = record {
+    at = λ k less. elim (cases_lt k lead.own) [
+      | inl low ↦ h.least.at k low
+      | inr high ↦ (let same : lead.own ≡ k = omega arith in
+          let here : NoStop m Fast s lead.own = record { going = end; inside = inside } in subst (λ i. NoStop m Fast s i) same here)
+    ];
+  }
 
   -- what the judge sees is true
   pub sees-tail : (s x : S) (n : ℕ) (part : Part S) (segment : Option Between) (rs : List (Region S)) (lead : Track S) → Tail m s part segment rs lead
@@ -92,7 +92,6 @@ pub record KeptPart {S E D : Type 0} (m : Machine S E D) (part : Part S) (x : S)
   pub same : m.difference x state ≡ None
 
 module _ {S E D : Type 0} (m : Machine S E D) where
-
   lead-unmet : (own k : ℕ) (d : Option D) (o : Option E) → seen_lead own o ≡ Met k d → ⊥
   lead-unmet own k d (Some e) h = cc
   lead-unmet own k d None h = cc
@@ -108,8 +107,8 @@ module _ {S E D : Type 0} (m : Machine S E D) where
       absurd (let met = waiting p in let inside : at_boundary m c.lead ≡ false = boundary-at m Fast c.lead.start c.lead kind refl ∙ met.inside in cc)
   lead-inside_by c false true p q lost uncrossed kind waiting =
       absurd (let home : lead_home c ≡ true = ap₂ (λ (x : Bool) (ls : List _). not x && not (is_named (lead_name c) ls)) p lost in
-        let fast : is_kind c.lead.kind Fast ≡ true = ap (λ k. is_kind k Fast) kind in
-        let crosses : cross_test m c ≡ true = and_from (lead_home c) (is_kind c.lead.kind Fast && at_boundary m c.lead) home (and_from (is_kind c.lead.kind Fast) (at_boundary m c.lead) fast q) in cc)
+      let fast : is_kind c.lead.kind Fast ≡ true = ap (λ k. is_kind k Fast) kind in
+      let crosses : cross_test m c ≡ true = and_from (lead_home c) (is_kind c.lead.kind Fast && at_boundary m c.lead) home (and_from (is_kind c.lead.kind Fast) (at_boundary m c.lead) fast q) in cc)
 
   -- a fast lead that isn't due to cross stands inside its region
   pub lead-inside : (c : Core S E D) → c.lost ≡ [] → cross_test m c ≡ false → (c.lead.kind ≡ Fast → is_lent (lead_name c) c.loans ≡ true → NoStop m Fast c.lead.start c.lead.own)
@@ -134,7 +133,6 @@ pub record Settled {S E D : Type 0} (m : Machine S E D) (b : Settings) (start : 
   pub rows_so_far : ledger m start b.budget ≡ rows ++ ledger_from m (b.budget - (base + n)) (go m (fresh start) (base + n)).state (length rows) (base + n)
 
 module _ {S E D : Type 0} (m : Machine S E D) (b : Settings) (start : S) where
-
   row-same : (c : Core S E D) (r : Region S) (s : S) (j : Judged D) → r.start ≡ s → j ≡ verdict m s r.normal.own → row_at m s (length c.rows) c.base r.normal.own ≡ row_of m c r j
   row-same c r s j p q = λ i. record { number = length c.rows; at = c.base; pc = m.pc (sym p i); original = r.normal.own; judged = sym q i }
 
@@ -154,17 +152,17 @@ module _ {S E D : Type 0} (m : Machine S E D) (b : Settings) (start : S) where
       let row : row_at m s (length c.rows) c.base n ≡ row_of m c r j = row-same c r s j chain.start judged in
       let less : (b.budget - c.base) - n ≡ b.budget - (c.base + n) = omega arith in
       let rest : ledger_from m ((b.budget - c.base) - n) (go m (fresh s) n).state (suc (length c.rows)) (c.base + n)
-            ≡ ledger_from m (b.budget - (c.base + n)) (go m (fresh start) (c.base + n)).state (length (c.rows ++ (row_of m c r j ∷ []))) (c.base + n)
-          = ap₂ (λ (l : ℕ) (q : Point S E). ledger_from m l q.state (suc (length c.rows)) (c.base + n)) less behind
-            ∙ ap (λ k. ledger_from m (b.budget - (c.base + n)) (go m (fresh start) (c.base + n)).state k (c.base + n)) (length-more c.rows (row_of m c r j)) in
+      ≡ ledger_from m (b.budget - (c.base + n)) (go m (fresh start) (c.base + n)).state (length (c.rows ++ (row_of m c r j ∷ []))) (c.base + n)
+      = ap₂ (λ (l : ℕ) (q : Point S E). ledger_from m l q.state (suc (length c.rows)) (c.base + n)) less behind
+      ∙ ap (λ k. ledger_from m (b.budget - (c.base + n)) (go m (fresh start) (c.base + n)).state k (c.base + n)) (length-more c.rows (row_of m c r j)) in
       record {
         within = omega arith;
         going = sym (ap (λ (q : Point S E). q.end) behind) ∙ boundary-going m Normal s n at;
         output = shows-settled m b start c.base c.released c.ready r.normal within (shows-good m b start (record c { regions = r ∷ rs }) g);
         rows_so_far = g.rows
-          ∙ ap (λ rows. c.rows ++ rows) (ledger_from-region m (b.budget - c.base) s (length c.rows) c.base n chain.call (normal-pos m s n at) within chain.normal.least at
+            ∙ ap (λ rows. c.rows ++ rows) (ledger_from-region m (b.budget - c.base) s (length c.rows) c.base n chain.call (normal-pos m s n at) within chain.normal.least at
             ∙ ap₂ (λ (x : Row D) (xs : List (Row D)). x ∷ xs) row rest)
-          ∙ sym (append_assoc c.rows (row_of m c r j ∷ []) (ledger_from m (b.budget - (c.base + n)) (go m (fresh start) (c.base + n)).state (length (c.rows ++ (row_of m c r j ∷ []))) (c.base + n)));
+            ∙ sym (append_assoc c.rows (row_of m c r j ∷ []) (ledger_from m (b.budget - (c.base + n)) (go m (fresh start) (c.base + n)).state (length (c.rows ++ (row_of m c r j ∷ []))) (c.base + n)));
       }
 
   -- Discard
@@ -178,7 +176,7 @@ module _ {S E D : Type 0} (m : Machine S E D) (b : Settings) (start : S) where
       let chain = g.chain in
       let s : S = (go m (fresh start) c.base).state in
       let stands : track_point m r.normal ≡ go m (fresh start) (c.base + r.normal.own)
-          = track_point-at m Normal s r.normal chain.normal.kind chain.normal.start ∙ go-from m b start c.base r.normal.own g.truth in
+      = track_point-at m Normal s r.normal chain.normal.kind chain.normal.start ∙ go-from m b start c.base r.normal.own g.truth in
       let whole : Whole m (go m (fresh start) (c.base + r.normal.own)).state (segment_of (track_point m r.normal).state) = whole-first m (go m (fresh start) (c.base + r.normal.own)).state (segment_of (track_point m r.normal).state) refl refl in
       let shows = shows-whole m b start (c.base + r.normal.own) c.released (c.ready ++ marks r.normal.held) (segment_of (track_point m r.normal).state) settled.going whole settled.output in
       record {
@@ -214,19 +212,19 @@ module _ {S E D : Type 0} (m : Machine S E D) (b : Settings) (start : S) where
       let truth : (go m (fresh start) (base + n + steps)).end ≡ None = sym (ap (λ (q : Point S E). q.end) behind) ∙ going in
       let same : fresh t ≡ go m (fresh start) (base + n) = ap (λ (x : S). fresh {E = E} x) is ∙ sym (fresh-point m (go m (fresh start) (base + n)) settled.going) in
       let more_is : more ≡ out m (go m (fresh start) (base + n)) (min (b.budget - (base + n)) steps)
-          = written ∙ marks_upto-pieces m (b.budget - (base + n)) (fresh t) 0 steps
-            ∙ ap₂ (λ (q : Point S E) (k : ℕ). out m q (min k steps)) same (let less : (b.budget - (base + n)) - 0 ≡ b.budget - (base + n) = omega arith in less) in
+      = written ∙ marks_upto-pieces m (b.budget - (base + n)) (fresh t) 0 steps
+      ∙ ap₂ (λ (q : Point S E) (k : ℕ). out m q (min k steps)) same (let less : (b.budget - (base + n)) - 0 ≡ b.budget - (base + n) = omega arith in less) in
       let output : released ++ (ready ++ more) ≡ out m (fresh start) (min b.budget (base + n + steps))
-          = sym (append_assoc released ready more) ∙ ap₂ (λ (xs ys : List Mark). xs ++ ys) settled.output more_is ∙ sym (out-min m (fresh start) b.budget (base + n) steps) in
+      = sym (append_assoc released ready more) ∙ ap₂ (λ (xs ys : List Mark). xs ++ ys) settled.output more_is ∙ sym (out-min m (fresh start) b.budget (base + n) steps) in
       let walked : ledger_from m (b.budget - (base + n)) s (length rows) (base + n) ≡ ledger_from m (b.budget - (base + n + steps)) (go m (fresh start) (base + n + steps)).state (length rows) (base + n + steps)
-          = ap (λ (x : S). ledger_from m (b.budget - (base + n)) x (length rows) (base + n)) (sym is)
-            ∙ ledger_from-segment m steps (b.budget - (base + n)) t (length rows) (base + n) least going
-            ∙ ap₂ (λ (l : ℕ) (q : Point S E). ledger_from m l q.state (length rows) (base + n + steps)) (let less : (b.budget - (base + n)) - steps ≡ b.budget - (base + n + steps) = omega arith in less) behind in
+      = ap (λ (x : S). ledger_from m (b.budget - (base + n)) x (length rows) (base + n)) (sym is)
+      ∙ ledger_from-segment m steps (b.budget - (base + n)) t (length rows) (base + n) least going
+      ∙ ap₂ (λ (l : ℕ) (q : Point S E). ledger_from m l q.state (length rows) (base + n + steps)) (let less : (b.budget - (base + n)) - steps ≡ b.budget - (base + n + steps) = omega arith in less) behind in
       record {
         truth = truth;
         chain = subst (λ (q : Point S E). Chain m q.state regions lead) behind chain;
         shows = shows-whole m b start (base + n + steps) released (ready ++ more) (front_of regions lead) truth
-          (subst (λ (q : Point S E). Whole m q.state (front_of regions lead)) behind whole) output;
+            (subst (λ (q : Point S E). Whole m q.state (front_of regions lead)) behind whole) output;
         rows_so_far = settled.rows_so_far ∙ ap (λ xs. rows ++ xs) walked;
       }
 
@@ -243,8 +241,8 @@ module _ {S E D : Type 0} (m : Machine S E D) (b : Settings) (start : S) where
       let link = h.link in
       let chain : Chain m r.start (r ∷ rs) lead = record { start = refl; call = h.call; normal = h.normal; tail = h.tail } in
       behind-segment base n g.steps released ready (marks_upto (b.budget - (base + n)) g.pieces) rows (r ∷ rs) lead t settled is link.least link.going
-        (ap (marks_upto (b.budget - (base + n))) link.whole)
-        (subst (λ (x : S). Chain m x (r ∷ rs) lead) link.next chain) (subst (λ (x : S). Whole m x r.normal) link.next h.whole)
+      (ap (marks_upto (b.budget - (base + n))) link.whole)
+      (subst (λ (x : S). Chain m x (r ∷ rs) lead) link.next chain) (subst (λ (x : S). Whole m x r.normal) link.next h.whole)
 
   -- the fast version's end is where the original stands
   kept-state : (c : Core S E D) (r : Region S) (rs : List (Region S)) → Exact m start → Good m b start (record c { regions = r ∷ rs })
@@ -254,9 +252,9 @@ module _ {S E D : Type 0} (m : Machine S E D) (b : Settings) (start : S) where
       let chain = g.chain in
       let s : S = (go m (fresh start) c.base).state in
       let stands : track_point m r.normal ≡ go m (fresh start) (c.base + r.normal.own)
-          = track_point-at m Normal s r.normal chain.normal.kind chain.normal.start ∙ go-from m b start c.base r.normal.own g.truth in
+      = track_point-at m Normal s r.normal chain.normal.kind chain.normal.start ∙ go-from m b start c.base r.normal.own g.truth in
       let none : m.difference (go m (fresh start) (c.base + r.normal.own)).state (point m Fast s x.count).state ≡ None
-          = sym (ap₂ (λ (q : Point S E) (y : S). m.difference q.state y) stands fast.is) ∙ x.same in
+      = sym (ap₂ (λ (q : Point S E) (y : S). m.difference q.state y) stands fast.is) ∙ x.same in
       fast.is ∙ sym (exact (c.base + r.normal.own) c.base x.count none)
 
   pub good-kept : (c : Core S E D) (r : Region S) (rs : List (Region S)) (j : Judged D) → Exact m start → Good m b start (record c { regions = r ∷ rs }) → over c ≡ false → c.base < b.budget → r.normal.own ≤ b.budget - c.base
@@ -270,9 +268,9 @@ module _ {S E D : Type 0} (m : Machine S E D) (b : Settings) (start : S) where
       let tail : Tail m s (Closed kept.count kept.state) r.segment rs c.lead = subst (λ part. Tail m s part r.segment rs c.lead) kept.is chain.tail in
       let fast = tail-closed m s kept.count kept.state r.segment rs c.lead tail in
       let behind = behind-tail c.base r.normal.own kept.count c.released (c.ready ++ marks r.normal.held) (c.rows ++ (row_of m c r j ∷ [])) s kept.state r.segment rs c.lead settled
-            (kept-state c r rs exact g kept fast) tail in
+      (kept-state c r rs exact g kept fast) tail in
       let ready : (c.ready ++ marks r.normal.held) ++ between_marks (b.budget - (c.base + r.normal.own)) r.segment ≡ c.ready ++ (marks r.normal.held ++ between_marks (b.budget - (c.base + r.normal.own)) r.segment)
-          = append_assoc c.ready (marks r.normal.held) (between_marks (b.budget - (c.base + r.normal.own)) r.segment) in
+      = append_assoc c.ready (marks r.normal.held) (between_marks (b.budget - (c.base + r.normal.own)) r.segment) in
       let shows = subst (λ ms. Shows m b start (c.base + r.normal.own + between_steps r.segment) c.released ms (front_of rs c.lead)) ready behind.shows in
       record {
         truth = behind.truth;

@@ -1,25 +1,22 @@
 -- Cross and Fork keep what holds of the core.
-use Rattle.std.proofs.Common.{◌≡◌, ℕ, zero, suc, ◌+◌, ◌-◌, ◌<◌, ◌≤◌, min, Bool, true, false, List, [], ◌∷◌, ◌++◌, Option, Some, None, length, refl, sym, ap, ap₂, ◌∙◌, subst, append_assoc, append-nil, arith}
-use Rattle.speculation.specs.declared.tracks.Kind.{Kind}
-use Rattle.speculation.specs.declared.tracks.Kind.TheVariants.{Normal, Fast, Segment}
+use Rattle.std.proofs.Common.{◌≡◌, ℕ, suc, ◌+◌, ◌-◌, ◌≤◌, true, List, [], ◌∷◌, ◌++◌, Some, None, length, refl, sym, ap, ap₂, ◌∙◌, subst, arith}
+use Rattle.speculation.specs.declared.tracks.Kind.TheVariants.{Fast, Segment}
 use Rattle.speculation.specs.declared.history.Settings.{Settings}
 use Rattle.speculation.specs.Machine.{Machine}
-use Rattle.speculation.specs.Run.{Mark, Piece, Point, marks, marks_upto, fresh, go, pieces, out}
-use Rattle.speculation.specs.Tracks.{point, boundary}
-use Rattle.speculation.specs.Ledger.{ledger, ledger_from}
-use Rattle.speculation.specs.Core.{Core, Track, Between, Region, Finished, over, front, front_of, front_name, front_home, at_home, lead_name, lead_home, track_point, at_boundary}
-use Rattle.speculation.specs.Due.{finish_test, cross_test, fork_test}
+use Rattle.speculation.specs.Run.{Mark, Point, marks, fresh, go}
+use Rattle.speculation.specs.Ledger.{ledger_from}
+use Rattle.speculation.specs.Core.{Core, Track, Between, Region, Finished, front, front_of, front_name, front_home, at_home, lead_home, track_point, at_boundary}
+use Rattle.speculation.specs.Due.{finish_test}
 use Rattle.speculation.specs.Effects.{segment_of, region_of, crossed, forked, crossed_core, forked_core}
 use Rattle.speculation_law.specs.Facts.{NoStop, Chain, SegmentTrack}
-use Rattle.speculation_law.specs.Sound.{Numbered, Final, Good}
+use Rattle.speculation_law.specs.Sound.{Good}
 use Rattle.speculation_law.proofs.Verdicts.{boundary-going}
 use Rattle.speculation_law.proofs.Walks.{ledger_from-segment}
 use Rattle.speculation_law.proofs.Dues.{CrossingLead, ForkingLead}
-use Rattle.speculation_law.proofs.Chains.{whole-first, track_point-at, boundary-at, chain-crossed, chain-forked, chain-opened, segment-going}
-use Rattle.speculation_law.proofs.Fronts.{Shows, go-from, shows-good, shows-whole, shows-settled, unfinished-unspent, unfinished-within}
+use Rattle.speculation_law.proofs.Chains.{whole-first, track_point-at, chain-crossed, chain-forked, chain-opened, segment-going}
+use Rattle.speculation_law.proofs.Fronts.{Shows, go-from, shows-good, shows-whole, shows-settled, unfinished-within}
 
 module _ {S E D : Type 0} (m : Machine S E D) (b : Settings) (start : S) where
-
   front-crossed : (r : Region S) (rs : List (Region S)) (k : ℕ) (s : S) (lead lead2 : Track S) → front_of (r ∷ rs) lead ≡ front_of (crossed (r ∷ rs) k s) lead2
   front-crossed r [] k s lead lead2 = refl
   front-crossed r (r2 ∷ rs) k s lead lead2 = refl
@@ -59,7 +56,7 @@ module _ {S E D : Type 0} (m : Machine S E D) (b : Settings) (start : S) where
       let s : S = (track_point m c.lead).state in
       let between : Between = record { steps = c.lead.own; pieces = c.lead.held } in
       let shows = subst (λ (t : Track S). Shows m b start c.base c.released c.ready t)
-            (front-forked r rs between (region_of (suc c.last) s) c.lead (record { kind = Fast; start = s; own = 0; held = [] })) (shows-good m b start (record c { regions = r ∷ rs }) g) in
+      (front-forked r rs between (region_of (suc c.last) s) c.lead (record { kind = Fast; start = s; own = 0; held = [] })) (shows-good m b start (record c { regions = r ∷ rs }) g) in
       record {
         truth = g.truth;
         chain = chain-forked m (go m (fresh start) c.base).state r rs c.lead (suc c.last) g.chain kind here;
@@ -83,11 +80,11 @@ module _ {S E D : Type 0} (m : Machine S E D) (b : Settings) (start : S) where
       let truth : (go m (fresh start) (c.base + own)).end ≡ None = sym (ap (λ (q : Point S E). q.end) (go-from m b start c.base own g.truth)) ∙ segment-going m s c.lead chain here in
       let new : Region S = region_of (suc c.last) (track_point m c.lead).state in
       let shows = shows-whole m b start (c.base + own) c.released (c.ready ++ marks c.lead.held) new.normal truth
-            (whole-first m (go m (fresh start) (c.base + own)).state new.normal refl refl)
-            (shows-settled m b start c.base c.released c.ready c.lead within (shows-good m b start (record c { regions = [] }) g)) in
+      (whole-first m (go m (fresh start) (c.base + own)).state new.normal refl refl)
+      (shows-settled m b start c.base c.released c.ready c.lead within (shows-good m b start (record c { regions = [] }) g)) in
       let walked : ledger_from m (b.budget - c.base) s (length c.rows) c.base ≡ ledger_from m (b.budget - (c.base + own)) (go m (fresh start) (c.base + own)).state (length c.rows) (c.base + own)
-          = ledger_from-segment m own (b.budget - c.base) s (length c.rows) c.base chain.least (segment-going m s c.lead chain here)
-            ∙ ap₂ (λ (l : ℕ) (q : Point S E). ledger_from m l q.state (length c.rows) (c.base + own)) (let less : (b.budget - c.base) - own ≡ b.budget - (c.base + own) = omega arith in less) (go-from m b start c.base own g.truth) in
+      = ledger_from-segment m own (b.budget - c.base) s (length c.rows) c.base chain.least (segment-going m s c.lead chain here)
+      ∙ ap₂ (λ (l : ℕ) (q : Point S E). ledger_from m l q.state (length c.rows) (c.base + own)) (let less : (b.budget - c.base) - own ≡ b.budget - (c.base + own) = omega arith in less) (go-from m b start c.base own g.truth) in
       record {
         truth = truth;
         chain = subst (λ (q : Point S E). Chain m q.state (new ∷ []) (record { kind = Fast; start = (track_point m c.lead).state; own = 0; held = [] })) at (chain-opened m s c.lead (suc c.last) chain here);
@@ -109,7 +106,7 @@ module _ {S E D : Type 0} (m : Machine S E D) (b : Settings) (start : S) where
   pub lead-within : (c : Core S E D) → finish_test m b c.base (front_home c) (front c) ≡ None → lead_home c ≡ true → at_boundary m c.lead ≡ true → c.regions ≡ [] → c.lead.own ≤ b.budget - c.base
   lead-within c none home here empty =
       let test : finish_test m b c.base (lead_home c) c.lead ≡ None
-          = sym (ap (λ rs. finish_test m b c.base (at_home c (front_name c rs)) (front_of rs c.lead)) empty) ∙ none in
+      = sym (ap (λ rs. finish_test m b c.base (at_home c (front_name c rs)) (front_of rs c.lead)) empty) ∙ none in
       unfinished-within m b start c.base (lead_home c) c.lead test home (boundary-going m c.lead.kind c.lead.start c.lead.own here)
 
   pub good-forked : (c : Core S E D) → Good m b start c → ((f : Finished E) → c.finish ≡ Some f → ⊥)

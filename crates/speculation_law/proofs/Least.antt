@@ -1,5 +1,5 @@
 -- Least numbers at which a test holds.
-use Rattle.std.proofs.Common.{◌≡◌, ℕ, zero, suc, ◌+◌, ◌<◌, ◌≤◌, Bool, true, false, cond, Option, Some, None, unwrap_or, refl, sym, ap, ◌∙◌, subst, inl, inr, ◌⊎◌, arith}
+use Rattle.std.proofs.Common.{◌≡◌, ℕ, zero, suc, ◌+◌, ◌<◌, ◌≤◌, Bool, true, false, cond, Option, Some, None, unwrap_or, refl, sym, ap, ◌∙◌, subst, inl, inr, arith}
 use Rattle.std.proofs.lemmas.Bool.{cases_lt}
 use Rattle.speculation.specs.Tracks.{first_from}
 
@@ -16,8 +16,9 @@ pub first-some : (f : ℕ → Bool) (k n j : ℕ) → k ≤ j → j < k + n → 
 unfolding first_from
 first-some f k zero j low high here below = absurd (omega arith)
 first-some f k (suc n) j low high here below = elim (cases_lt k j) [
-    inl less ↦ first-later k (first_from f (suc k) n) (f k) (below k (omega arith) less) ∙ first-some f (suc k) n j less (omega arith) here (λ i low' high'. below i (omega arith) high')
-  | inr more ↦ (let same : j ≡ k = omega arith in first-here k (first_from f (suc k) n) (f k) (subst (λ i. f i ≡ true) same here) ∙ ap Some (sym same)) ]
+  | inl less ↦ first-later k (first_from f (suc k) n) (f k) (below k (omega arith) less) ∙ first-some f (suc k) n j less (omega arith) here (λ i low' high'. below i (omega arith) high')
+  | inr more ↦ (let same : j ≡ k = omega arith in first-here k (first_from f (suc k) n) (f k) (subst (λ i. f i ≡ true) same here) ∙ ap Some (sym same))
+]
 
 -- false at all of k, .., k + n - 1
 pub first-none : (f : ℕ → Bool) (k n : ℕ) → ((i : ℕ) → k ≤ i → i < k + n → f i ≡ false) → first_from f k n ≡ None
@@ -35,8 +36,9 @@ pub record IsLeast (f : ℕ → Bool) (k n j : ℕ) : Type 0 where
 
 below-more : (f : ℕ → Bool) (k : ℕ) → f k ≡ false → (j : ℕ) → ((i : ℕ) → suc k ≤ i → i < j → f i ≡ false) → (i : ℕ) → k ≤ i → i < j → f i ≡ false
 below-more f k here j below i low high = elim (cases_lt k i) [
-    inl less ↦ below i less high
-  | inr more ↦ (let same : k ≡ i = omega arith in subst (λ i. f i ≡ false) same here) ]
+  | inl less ↦ below i less high
+  | inr more ↦ (let same : k ≡ i = omega arith in subst (λ i. f i ≡ false) same here)
+]
 
 least-by : (f : ℕ → Bool) (k n j : ℕ) (t : Bool) → f k ≡ t → (first_from f (suc k) n ≡ Some j → IsLeast f (suc k) n j)
     → cond t (Some k) (first_from f (suc k) n) ≡ Some j → IsLeast f k (suc n) j

@@ -1,21 +1,21 @@
 -- Lend, Back, Gone, Release and Halt keep what holds of the core.
-use Rattle.std.proofs.Common.{◌≡◌, ℕ, zero, suc, ◌+◌, ◌-◌, ◌<◌, ◌≤◌, Bool, true, false, not, ◌&&◌, ◌||◌, if◌then◌else◌, List, [], ◌∷◌, ◌++◌, Option, Some, None, is_some, is_none, nat_eq, nat_lt, refl, sym, ap, ap₂, ◌∙◌, subst, append-nil, append_assoc, arith}
+use Rattle.std.proofs.Common.{◌≡◌, ℕ, ◌-◌, ◌≤◌, Bool, true, false, not, ◌&&◌, ◌||◌, if◌then◌else◌, List, [], ◌∷◌, ◌++◌, Option, Some, None, is_some, is_none, nat_eq, nat_lt, refl, sym, ap, ap₂, ◌∙◌, subst, append-nil, arith}
 use Rattle.std.proofs.lemmas.Bool.{and_parts, or_parts, not-true}
 use Rattle.speculation.specs.declared.tracks.Kind.{Kind}
-use Rattle.speculation.specs.declared.tracks.Kind.TheVariants.{Normal, Fast, Segment}
+use Rattle.speculation.specs.declared.tracks.Kind.TheVariants.{Fast}
 use Rattle.speculation.specs.declared.tracks.Name.{Name}
 use Rattle.speculation.specs.declared.tracks.OpenLoan.{OpenLoan}
 use Rattle.speculation.specs.declared.history.Settings.{Settings}
 use Rattle.speculation.specs.Machine.{Machine}
-use Rattle.speculation.specs.Run.{Mark, Piece, Point, marks_upto, fresh, go, pieces, out}
-use Rattle.speculation.specs.Core.{Core, Track, Region, Finished, over, name_eq, lead_name, normal_name, is_lent, is_named, at_home, find_loan, find_normal, find_track, front, front_of, front_name, front_home, verified, has_stop, track_point, at_boundary, is_kind, held_size, most_held}
-use Rattle.speculation.specs.Events.{new_pieces, run_on, slice, wanted, ready_to_go, is_ready, lendable, back_normals, back_regions, back_lead, end_loan, gone_live, left_over, released_regions, released_lead, released_by, released_core}
-use Rattle.speculation_law.specs.Facts.{NoStop, Chain, NormalTrack, SegmentTrack}
-use Rattle.speculation_law.specs.Sound.{Numbered, count_lent, Final, Good}
+use Rattle.speculation.specs.Run.{Mark, marks_upto, fresh, go}
+use Rattle.speculation.specs.Core.{Core, Track, Region, Finished, over, name_eq, lead_name, is_lent, is_named, at_home, find_loan, find_track, front, front_of, front_name, front_home, verified, has_stop, is_kind, held_size, most_held}
+use Rattle.speculation.specs.Events.{run_on, slice, wanted, is_ready, lendable, back_normals, back_regions, back_lead, end_loan, gone_live, left_over, released_regions, released_lead, released_by, released_core}
+use Rattle.speculation_law.specs.Facts.{NoStop, Chain}
+use Rattle.speculation_law.specs.Sound.{count_lent, Final, Good}
 use Rattle.speculation_law.proofs.Options.{is_some-none}
-use Rattle.speculation_law.proofs.Names.{FoundTrack, Original, Lead, find_track-found, name_eq-true, name_eq-same, lend-once, count_lent-end_loan, is_lent-end_loan, is_lent-before, is_lent-back, is_lent-found, home-lent}
+use Rattle.speculation_law.proofs.Names.{FoundTrack, Original, Lead, find_track-found, name_eq-true, lend-once, count_lent-end_loan, is_lent-end_loan, is_lent-before, is_lent-back, is_lent-found, home-lent}
 use Rattle.speculation_law.proofs.Pieces.{marks_upto-left_over}
-use Rattle.speculation_law.proofs.Running.{MetNothing, has_stop-false, new-normal, new-segment}
+use Rattle.speculation_law.proofs.Running.{has_stop-false, new-normal, new-segment}
 use Rattle.speculation_law.proofs.Chains.{chain-back, chain-released}
 use Rattle.speculation_law.proofs.Fronts.{Shows, shows-good, shows-run, shows-released, shows-poured}
 
@@ -24,7 +24,6 @@ pub unfinished : {S E D : Type 0} (c : Core S E D) → over c ≡ false → (f :
 unfinished c live f is = (let none = is_some-none c.finish (or_parts (is_some c.finish) c.halted live).0 in cc)
 
 module _ {S E D : Type 0} (m : Machine S E D) (b : Settings) where
-
   -- what it says that a track may be lent
   pub record Lendable (c : Core S E D) (n : Name) (t : Track S) : Type 0 where
     pub live : over c ≡ false
@@ -82,11 +81,16 @@ module _ {S E D : Type 0} (m : Machine S E D) (b : Settings) where
   pub good-lent : (start : S) (c : Core S E D) (n : Name) (seat : ℕ) (t : Track S) → Good m b start c → Lendable c n t
       → Good m b start (record c { loans = c.loans ++ (record { seat = seat; name = n; dropped = None } ∷ []) })
   good-lent start c n seat t g h = record {
-    truth = g.truth; chain = g.chain; output = g.output; numbered = g.numbered; rows = g.rows;
+    truth = g.truth;
+    chain = g.chain;
+    output = g.output;
+    numbered = g.numbered;
+    rows = g.rows;
     waiting = waiting-lent c n seat t (name_eq (lead_name c) n) refl h g.waiting;
     once = lend-once n seat c.loans (home-lent c n h.home) g.once;
     lost = g.lost;
-    final = λ f is. absurd (unfinished c h.live f is) }
+    final = λ f is. absurd (unfinished c h.live f is);
+  }
 
   -- Back
 
@@ -101,7 +105,7 @@ module _ {S E D : Type 0} (m : Machine S E D) (b : Settings) where
   shows-back start base released ready true number [] lead going chain h = h
   shows-back start base released ready true number (r ∷ rs) lead going chain h =
       front-back_by r rs lead (nat_eq number r.number) number (λ t. Shows m b start base released ready t) h
-        (shows-run m b start base released ready r.normal (slice m b r.normal) going (new-normal m b (go m (fresh start) base).state r.normal (slice m b r.normal) chain.normal) h)
+      (shows-run m b start base released ready r.normal (slice m b r.normal) going (new-normal m b (go m (fresh start) base).state r.normal (slice m b r.normal) chain.normal) h)
   shows-back start base released ready false number [] lead going chain h =
       shows-run m b start base released ready lead (slice m b lead) going (new-segment m b (go m (fresh start) base).state lead (slice m b lead) chain) h
   shows-back start base released ready false number (r ∷ rs) lead going chain h = h
@@ -111,10 +115,10 @@ module _ {S E D : Type 0} (m : Machine S E D) (b : Settings) where
       → (back_lead m b n.normal c.lead).kind ≡ Fast → is_lent (lead_name c) (end_loan n c.loans) ≡ true → NoStop m Fast (back_lead m b n.normal c.lead).start (back_lead m b n.normal c.lead).own
   waiting-back c n l t (Original present normal found) loan live once waiting =
       subst (λ x. (back_lead m b x c.lead).kind ≡ Fast → is_lent (lead_name c) (end_loan n c.loans) ≡ true → NoStop m Fast (back_lead m b x c.lead).start (back_lead m b x c.lead).own) (sym normal)
-        (λ kind lent. waiting kind (is_lent-before n (lead_name c) c.loans lent))
+      (λ kind lent. waiting kind (is_lent-before n (lead_name c) c.loans lent))
   waiting-back c n l t (Lead normal named lead) loan live once waiting = λ kind lent.
       absurd (let none : is_lent n (end_loan n c.loans) ≡ false = is_lent-back n l c.loans loan live (once n) in
-        let same : is_lent n (end_loan n c.loans) ≡ is_lent (lead_name c) (end_loan n c.loans) = ap (λ (x : Name). is_lent x (end_loan n c.loans)) named in cc)
+      let same : is_lent n (end_loan n c.loans) ≡ is_lent (lead_name c) (end_loan n c.loans) = ap (λ (x : Name). is_lent x (end_loan n c.loans)) named in cc)
 
   once-end : (n : Name) (ls : List OpenLoan) → ((x : Name) → count_lent x ls ≤ 1) → (x : Name) → count_lent x (end_loan n ls) ≤ 1
   once-end n ls once x = (let less = count_lent-end_loan n x ls in let one = once x in omega arith)
@@ -149,9 +153,13 @@ module _ {S E D : Type 0} (m : Machine S E D) (b : Settings) where
   -- a final core stays so when a loan that was dropped ends
   final-dropped : (start : S) (c : Core S E D) (n : Name) (f : Finished E) → Final m b start c f → Final m b start (record c { loans = end_loan n c.loans }) f
   final-dropped start c n f h = record {
-    end = h.end; count = h.count; output = h.output; rows = h.rows;
+    end = h.end;
+    count = h.count;
+    output = h.output;
+    rows = h.rows;
     nothing = λ away. h.nothing (home-from (is_lent (front_name c c.regions) c.loans) (is_lent (front_name c c.regions) (end_loan n c.loans)) (is_named (front_name c c.regions) c.lost) (is_named (front_name c c.regions) c.lost)
-      (is_lent-end_loan n (front_name c c.regions) c.loans) (λ lent named. named) (away-by c (end_loan n c.loans) c.regions away)) }
+        (is_lent-end_loan n (front_name c c.regions) c.loans) (λ lent named. named) (away-by c (end_loan n c.loans) c.regions away));
+  }
     where
       away-by : (c : Core S E D) (ls : List OpenLoan) (rs : List (Region S)) → at_home (record c { loans = ls }) (front_name (record c { loans = ls }) rs) ≡ false
           → (not (is_lent (front_name c rs) ls) && not (is_named (front_name c rs) c.lost)) ≡ false
@@ -161,14 +169,18 @@ module _ {S E D : Type 0} (m : Machine S E D) (b : Settings) where
   final-lost : (start : S) (c : Core S E D) (n : Name) (l : OpenLoan) (f : Finished E) → find_loan n c.loans ≡ Some l → l.dropped ≡ None → Final m b start c f
       → Final m b start (record c { loans = end_loan n c.loans; lost = n ∷ c.lost; halted = not (is_some c.finish) || c.halted }) f
   final-lost start c n l f loan live h = record {
-    end = h.end; count = h.count; output = h.output; rows = h.rows;
+    end = h.end;
+    count = h.count;
+    output = h.output;
+    rows = h.rows;
     nothing = λ away. h.nothing (home-from (is_lent (front_name c c.regions) c.loans) (is_lent (front_name c c.regions) (end_loan n c.loans)) (is_named (front_name c c.regions) c.lost) (is_named (front_name c c.regions) (n ∷ c.lost))
-      (is_lent-end_loan n (front_name c c.regions) c.loans)
-      (λ lent named. named-other (front_name c c.regions) n (name_eq (front_name c c.regions) n) (is_named (front_name c c.regions) c.lost)
+        (is_lent-end_loan n (front_name c c.regions) c.loans)
+        (λ lent named. named-other (front_name c c.regions) n (name_eq (front_name c c.regions) n) (is_named (front_name c c.regions) c.lost)
         (λ same. (let is : front_name c c.regions ≡ n = name_eq-true (front_name c c.regions) n same in
-          let out_now : is_lent n c.loans ≡ true = is_lent-found n l c.loans loan live in
-          let other : is_lent n c.loans ≡ false = subst (λ (x : Name). is_lent x c.loans ≡ false) is lent in cc)) named)
-      (away-by c (end_loan n c.loans) (n ∷ c.lost) (not (is_some c.finish) || c.halted) c.regions away)) }
+        let out_now : is_lent n c.loans ≡ true = is_lent-found n l c.loans loan live in
+        let other : is_lent n c.loans ≡ false = subst (λ (x : Name). is_lent x c.loans ≡ false) is lent in cc)) named)
+        (away-by c (end_loan n c.loans) (n ∷ c.lost) (not (is_some c.finish) || c.halted) c.regions away));
+  }
     where
       away-by : (c : Core S E D) (ls : List OpenLoan) (lost : List Name) (halted : Bool) (rs : List (Region S))
           → at_home (record c { loans = ls; lost = lost; halted = halted }) (front_name (record c { loans = ls; lost = lost; halted = halted }) rs) ≡ false
@@ -182,15 +194,27 @@ module _ {S E D : Type 0} (m : Machine S E D) (b : Settings) where
 
   good-gone_by : (start : S) (c : Core S E D) (n : Name) (l : OpenLoan) (o : Option ℕ) → l.dropped ≡ o → Good m b start c → find_loan n c.loans ≡ Some l → Good m b start (gone_live c n o)
   good-gone_by start c n l (Some row) is g loan = record {
-    truth = g.truth; chain = g.chain; output = g.output; numbered = g.numbered; rows = g.rows;
+    truth = g.truth;
+    chain = g.chain;
+    output = g.output;
+    numbered = g.numbered;
+    rows = g.rows;
     waiting = λ kind lent. g.waiting kind (is_lent-before n (lead_name c) c.loans lent);
-    once = once-end n c.loans g.once; lost = g.lost;
-    final = λ f finish. final-dropped start c n f (g.final f finish) }
+    once = once-end n c.loans g.once;
+    lost = g.lost;
+    final = λ f finish. final-dropped start c n f (g.final f finish);
+  }
   good-gone_by start c n l None is g loan = record {
-    truth = g.truth; chain = g.chain; output = g.output; numbered = g.numbered; rows = g.rows;
+    truth = g.truth;
+    chain = g.chain;
+    output = g.output;
+    numbered = g.numbered;
+    rows = g.rows;
     waiting = λ kind lent. g.waiting kind (is_lent-before n (lead_name c) c.loans lent);
-    once = once-end n c.loans g.once; lost = λ live. absurd (never-live (is_some c.finish) c.halted live);
-    final = λ f finish. final-lost start c n l f loan is (g.final f finish) }
+    once = once-end n c.loans g.once;
+    lost = λ live. absurd (never-live (is_some c.finish) c.halted live);
+    final = λ f finish. final-lost start c n l f loan is (g.final f finish);
+  }
 
   pub good-gone : (start : S) (c : Core S E D) (n : Name) (l : OpenLoan) → Good m b start c → find_loan n c.loans ≡ Some l → Good m b start (gone_live c n l.dropped)
   good-gone start c n l g loan = good-gone_by start c n l l.dropped refl g loan
@@ -199,10 +223,16 @@ module _ {S E D : Type 0} (m : Machine S E D) (b : Settings) where
 
   pub good-halted : (start : S) (c : Core S E D) → Good m b start c → over c ≡ false → Good m b start (record c { halted = true })
   good-halted start c g live = record {
-    truth = g.truth; chain = g.chain; output = g.output; numbered = g.numbered; rows = g.rows;
-    waiting = g.waiting; once = g.once;
+    truth = g.truth;
+    chain = g.chain;
+    output = g.output;
+    numbered = g.numbered;
+    rows = g.rows;
+    waiting = g.waiting;
+    once = g.once;
     lost = λ still. absurd (let both = or_parts (is_some c.finish) true still in let two = both.1 in cc);
-    final = λ f is. absurd (unfinished c live f is) }
+    final = λ f is. absurd (unfinished c live f is);
+  }
 
   -- Release
 
@@ -235,7 +265,7 @@ module _ {S E D : Type 0} (m : Machine S E D) (b : Settings) where
       let limit = b.budget - c.base in
       let given = shows-released m b start c.base c.released c.ready (front c) (shows-good m b start c g) in
       let shows = shows-front start c.base (c.released ++ verified b c) [] limit c.regions c.lead
-            (subst (λ ms. Shows m b start c.base (c.released ++ ms) [] (record (front c) { held = left_over limit (front c).held })) (sym (verified-home c is)) given) in
+      (subst (λ ms. Shows m b start c.base (c.released ++ ms) [] (record (front c) { held = left_over limit (front c).held })) (sym (verified-home c is)) given) in
       record {
         truth = g.truth;
         chain = chain-released m limit (go m (fresh start) c.base).state c.regions c.lead g.chain;
@@ -246,22 +276,35 @@ module _ {S E D : Type 0} (m : Machine S E D) (b : Settings) where
         once = g.once;
         lost = g.lost;
         final = λ f finish. (let old = g.final f finish in record {
-          end = old.end; count = old.count; rows = old.rows;
+          end = old.end;
+          count = old.count;
+          rows = old.rows;
           output = ap (λ ms. (c.released ++ verified b c) ++ ms) (released-held limit c.regions c.lead) ∙ append-nil (c.released ++ verified b c) ∙ ap (λ ms. c.released ++ ms) (verified-home c is) ∙ old.output;
-          nothing = λ away. released-held limit c.regions c.lead });
+          nothing = λ away. released-held limit c.regions c.lead;
+        });
       }
   good-released_by start c false is g =
       let poured = shows-poured m b start c.base c.released c.ready (front c) (shows-good m b start c g) in
       let shows = subst (λ ms. Shows m b start c.base (c.released ++ ms) [] (front c)) (sym (verified-away c is)) poured in
       record {
-        truth = g.truth; chain = g.chain; output = shows.output; numbered = shows.numbered; rows = g.rows; waiting = g.waiting; once = g.once; lost = g.lost;
+        truth = g.truth;
+        chain = g.chain;
+        output = shows.output;
+        numbered = shows.numbered;
+        rows = g.rows;
+        waiting = g.waiting;
+        once = g.once;
+        lost = g.lost;
         final = λ f finish. (let old = g.final f finish in
-          let empty : marks_upto (b.budget - c.base) (front c).held ≡ [] = old.nothing is in record {
-          end = old.end; count = old.count; rows = old.rows;
-          output = ap (λ ms. (c.released ++ ms) ++ marks_upto (b.budget - c.base) (front c).held) (verified-away c is ∙ ap (λ ms. c.ready ++ ms) (sym empty))
-            ∙ ap (λ ms. (c.released ++ (c.ready ++ marks_upto (b.budget - c.base) (front c).held)) ++ ms) empty
-            ∙ append-nil (c.released ++ (c.ready ++ marks_upto (b.budget - c.base) (front c).held)) ∙ old.output;
-          nothing = λ away. empty });
+            let empty : marks_upto (b.budget - c.base) (front c).held ≡ [] = old.nothing is in record {
+              end = old.end;
+              count = old.count;
+              rows = old.rows;
+              output = ap (λ ms. (c.released ++ ms) ++ marks_upto (b.budget - c.base) (front c).held) (verified-away c is ∙ ap (λ ms. c.ready ++ ms) (sym empty))
+                  ∙ ap (λ ms. (c.released ++ (c.ready ++ marks_upto (b.budget - c.base) (front c).held)) ++ ms) empty
+                  ∙ append-nil (c.released ++ (c.ready ++ marks_upto (b.budget - c.base) (front c).held)) ∙ old.output;
+              nothing = λ away. empty;
+            });
       }
 
   pub good-released : (start : S) (c : Core S E D) → Good m b start c → Good m b start (released_core b c)

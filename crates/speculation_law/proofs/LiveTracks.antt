@@ -1,21 +1,18 @@
 -- The track of a name that is lent stays the same under whatever does not concern it.
-use Rattle.std.proofs.Common.{◌≡◌, ℕ, zero, suc, ◌+◌, ◌<◌, ◌≤◌, Bool, true, false, not, ◌&&◌, if◌then◌else◌, List, [], ◌∷◌, ◌++◌, Option, Some, None, nat_eq, refl, sym, ap, ap₂, ◌∙◌, subst, inl, inr, eq-eqb, ne_eqb, eqb-true, arith}
+use Rattle.std.proofs.Common.{◌≡◌, ℕ, suc, ◌<◌, ◌≤◌, Bool, true, false, not, if◌then◌else◌, List, [], ◌∷◌, Option, Some, None, nat_eq, refl, sym, ap, ◌∙◌, subst, eq-eqb, ne_eqb, eqb-true, arith}
 use Rattle.std.proofs.lemmas.Bool.{and_parts, not-true}
-use Rattle.speculation.specs.declared.tracks.Kind.{Kind}
 use Rattle.speculation.specs.declared.tracks.Name.{Name}
-use Rattle.speculation.specs.declared.tracks.OpenLoan.{OpenLoan}
 use Rattle.speculation.specs.declared.history.Settings.{Settings}
 use Rattle.speculation.specs.Machine.{Machine}
 use Rattle.speculation.specs.Run.{Mark}
-use Rattle.speculation.specs.Core.{Core, Track, Part, Between, Region, name_eq, lead_name, normal_name, is_lent, is_named, at_home, track_point, find_normal, track_by, find_track, front_name, front_home}
-use Rattle.speculation.specs.Effects.{segment_of, region_of, crossed, forked, crossed_core, forked_core}
-use Rattle.speculation.specs.Events.{run_on, slice, back_normals, back_regions, back_lead, end_loan, left_over, released_regions, released_lead, released_by}
+use Rattle.speculation.specs.Core.{Core, Track, Between, Region, name_eq, lead_name, normal_name, is_lent, is_named, at_home, track_point, find_normal, track_by, find_track, front_name, front_home}
+use Rattle.speculation.specs.Effects.{region_of, crossed, forked, crossed_core, forked_core}
+use Rattle.speculation.specs.Events.{run_on, slice, back_normals, back_regions, back_lead, left_over, released_regions, released_lead, released_by}
 use Rattle.speculation_law.specs.Naming.{Rising}
-use Rattle.speculation_law.proofs.Names.{FoundTrack, Original, Lead, find_track-found, name_eq-true, name_eq-same}
+use Rattle.speculation_law.proofs.Names.{FoundTrack, Original, Lead, name_eq-true, name_eq-same}
 use Rattle.speculation_law.proofs.Happens.{back_core}
 
 module _ {S : Type 0} where
-
   -- the track of a name by its parts: the original counts only for a present original's name, and the lead only for its own
   pub track_by-found : (p x l : Bool) (o o2 : Option (Track S)) (lead : Track S) → (p ≡ true → x ≡ true → o ≡ o2) → track_by p x l o lead ≡ track_by p x l o2 lead
   track_by-found false x l o o2 lead h = refl
@@ -86,7 +83,6 @@ module _ {S : Type 0} where
   rising-released low high limit (r ∷ rs) h = h
 
 module _ {S E D : Type 0} (m : Machine S E D) (b : Settings) where
-
   back-other_by : (number other : ℕ) (r : Region S) (rs : List (Region S)) (u : Bool) → nat_eq other r.number ≡ u → nat_eq other number ≡ false
       → find_normal number (back_normals m b other rs) ≡ find_normal number rs
       → find_normal number (if u then (record r { normal = run_on m r.normal (slice m b r.normal) }) ∷ rs else r ∷ back_normals m b other rs) ≡ find_normal number (r ∷ rs)
@@ -124,9 +120,9 @@ module _ {S E D : Type 0} (m : Machine S E D) (b : Settings) where
   region-apart : (c : Core S E D) (n k : Name) → name_eq k n ≡ false → k.generation ≡ c.generation → k.normal ≡ true → nat_eq n.generation c.generation ≡ true → n.normal ≡ true → nat_eq k.region n.region ≡ false
   region-apart c n k apart generation normal p x =
       ne_eqb k.region n.region (λ region. (let present : n.generation ≡ c.generation = eqb-true n.generation c.generation p in
-        let one : k.generation ≡ n.generation = generation ∙ sym present in let two : k.normal ≡ n.normal = normal ∙ sym x in
-        let same : k ≡ n = λ i. record { generation = one i; region = region i; normal = two i } in
-        let both : name_eq k n ≡ true = name_eq-same k n same in cc))
+      let one : k.generation ≡ n.generation = generation ∙ sym present in let two : k.normal ≡ n.normal = normal ∙ sym x in
+      let same : k ≡ n = λ i. record { generation = one i; region = region i; normal = two i } in
+      let both : name_eq k n ≡ true = name_eq-same k n same in cc))
 
   flip : (x y : ℕ) → nat_eq x y ≡ false → nat_eq y x ≡ false
   flip x y h = ne_eqb y x (λ same. (let both : nat_eq x y ≡ true = eq-eqb x y (sym same) in cc))
@@ -135,12 +131,12 @@ module _ {S E D : Type 0} (m : Machine S E D) (b : Settings) where
   pub find_track-back : (c : Core S E D) (n k : Name) (t : Track S) → FoundTrack c k t → name_eq k n ≡ false → find_track (back_core m b c k) n ≡ find_track c n
   find_track-back c n k t (Original generation normal found) apart =
       subst (λ x. track_by (nat_eq n.generation c.generation) n.normal (nat_eq n.region c.last) (find_normal n.region (back_regions m b x k.region c.regions)) (back_lead m b x c.lead) ≡ find_track c n) (sym normal)
-        (track_by-found (nat_eq n.generation c.generation) n.normal (nat_eq n.region c.last) (find_normal n.region (back_normals m b k.region c.regions)) (find_normal n.region c.regions) c.lead
-          (λ p x. find_normal-back n.region k.region c.regions (region-apart c n k apart generation normal p x)))
+      (track_by-found (nat_eq n.generation c.generation) n.normal (nat_eq n.region c.last) (find_normal n.region (back_normals m b k.region c.regions)) (find_normal n.region c.regions) c.lead
+      (λ p x. find_normal-back n.region k.region c.regions (region-apart c n k apart generation normal p x)))
   find_track-back c n k t (Lead normal named lead) apart =
       subst (λ x. track_by (nat_eq n.generation c.generation) n.normal (nat_eq n.region c.last) (find_normal n.region (back_regions m b x k.region c.regions)) (back_lead m b x c.lead) ≡ find_track c n) (sym normal)
-        (track_by-lead (nat_eq n.generation c.generation) n.normal (nat_eq n.region c.last) (find_normal n.region c.regions) (run_on m c.lead (slice m b c.lead)) c.lead
-          (lead-apart c n (subst (λ (x : Name). name_eq x n ≡ false) named apart)))
+      (track_by-lead (nat_eq n.generation c.generation) n.normal (nat_eq n.region c.last) (find_normal n.region c.regions) (run_on m c.lead (slice m b c.lead)) c.lead
+      (lead-apart c n (subst (λ (x : Name). name_eq x n ≡ false) named apart)))
 
   -- a name that is lent is not the name of what is at home
   pub home-apart : (c : Core S E D) (n k : Name) → is_lent n c.loans ≡ true → at_home c k ≡ true → name_eq k n ≡ false
@@ -148,15 +144,15 @@ module _ {S E D : Type 0} (m : Machine S E D) (b : Settings) where
     where
       apart-by : (t : Bool) → name_eq k n ≡ t → t ≡ false
       apart-by true is = absurd (let same : k ≡ n = name_eq-true k n is in
-        let none : is_lent k c.loans ≡ false = not-true (is_lent k c.loans) (and_parts (not (is_lent k c.loans)) (not (is_named k c.lost)) home).0 in
-        let other : is_lent n c.loans ≡ false = subst (λ (x : Name). is_lent x c.loans ≡ false) same none in cc)
+          let none : is_lent k c.loans ≡ false = not-true (is_lent k c.loans) (and_parts (not (is_lent k c.loans)) (not (is_named k c.lost)) home).0 in
+          let other : is_lent n c.loans ≡ false = subst (λ (x : Name). is_lent x c.loans ≡ false) same none in cc)
       apart-by false is = refl
 
   -- the lead closed its region
   pub find_track-crossed : (c : Core S E D) (n : Name) → name_eq (lead_name c) n ≡ false → find_track (crossed_core m c) n ≡ find_track c n
   find_track-crossed c n apart =
       track_by-found (nat_eq n.generation c.generation) n.normal (nat_eq n.region c.last) (find_normal n.region (crossed_core m c).regions) (find_normal n.region c.regions) (crossed_core m c).lead
-        (λ p x. find_normal-crossed n.region c.regions c.lead.own (track_point m c.lead).state)
+      (λ p x. find_normal-crossed n.region c.regions c.lead.own (track_point m c.lead).state)
       ∙ track_by-lead (nat_eq n.generation c.generation) n.normal (nat_eq n.region c.last) (find_normal n.region c.regions) (crossed_core m c).lead c.lead (lead-apart c n apart)
 
   track_by-last : (p l l2 : Bool) (x : Bool) (o : Option (Track S)) (lead lead2 : Track S) → x ≡ true → track_by p x l o lead ≡ track_by p x l2 o lead2
@@ -171,7 +167,7 @@ module _ {S E D : Type 0} (m : Machine S E D) (b : Settings) where
       let below : n.region ≤ c.last = number-high n.region 0 c.last c.regions t rising found in
       let differ : nat_eq n.region (suc c.last) ≡ false = ne_eqb n.region (suc c.last) (λ same. absurd (omega arith)) in
       track_by-found (nat_eq n.generation c.generation) n.normal (nat_eq n.region (suc c.last)) (find_normal n.region (forked_core m c).regions) (find_normal n.region c.regions) (forked_core m c).lead
-        (λ p x. find_normal-forked n.region c.regions (record { steps = c.lead.own; pieces = c.lead.held }) (region_of (suc c.last) (track_point m c.lead).state) differ)
+      (λ p x. find_normal-forked n.region c.regions (record { steps = c.lead.own; pieces = c.lead.held }) (region_of (suc c.last) (track_point m c.lead).state) differ)
       ∙ track_by-last (nat_eq n.generation c.generation) (nat_eq n.region (suc c.last)) (nat_eq n.region c.last) n.normal (find_normal n.region c.regions) (forked_core m c).lead c.lead normal
 
   -- the oldest region is taken off
@@ -179,16 +175,16 @@ module _ {S E D : Type 0} (m : Machine S E D) (b : Settings) where
       → track_by (nat_eq n.generation c.generation) n.normal (nat_eq n.region c.last) (find_normal n.region rs) c.lead ≡ find_track (record c { regions = r ∷ rs }) n
   find_track-kept c n r rs apart =
       track_by-found (nat_eq n.generation c.generation) n.normal (nat_eq n.region c.last) (find_normal n.region rs) (find_normal n.region (r ∷ rs)) c.lead
-        (λ p x. find_normal-rest n.region r rs (flip r.number n.region (region-apart c n (normal_name c r) apart refl refl p x)))
+      (λ p x. find_normal-rest n.region r rs (flip r.number n.region (region-apart c n (normal_name c r) apart refl refl p x)))
 
   released-track : (c : Core S E D) (n : Name) (limit : ℕ) (rs : List (Region S)) → name_eq (front_name c rs) n ≡ false
       → track_by (nat_eq n.generation c.generation) n.normal (nat_eq n.region c.last) (find_normal n.region (released_regions limit rs)) (released_lead limit rs c.lead)
-        ≡ track_by (nat_eq n.generation c.generation) n.normal (nat_eq n.region c.last) (find_normal n.region rs) c.lead
+      ≡ track_by (nat_eq n.generation c.generation) n.normal (nat_eq n.region c.last) (find_normal n.region rs) c.lead
   released-track c n limit [] apart =
       track_by-lead (nat_eq n.generation c.generation) n.normal (nat_eq n.region c.last) None (released_lead limit [] c.lead) c.lead (lead-apart c n apart)
   released-track c n limit (r ∷ rs) apart =
       track_by-found (nat_eq n.generation c.generation) n.normal (nat_eq n.region c.last) (find_normal n.region (released_regions limit (r ∷ rs))) (find_normal n.region (r ∷ rs)) c.lead
-        (λ p x. find_normal-released n.region limit r rs (flip r.number n.region (region-apart c n (normal_name c r) apart refl refl p x)))
+      (λ p x. find_normal-released n.region limit r rs (flip r.number n.region (region-apart c n (normal_name c r) apart refl refl p x)))
 
   -- verified bytes were given out
   pub find_track-released : (c : Core S E D) (n : Name) (home : Bool) (limit : ℕ) (bytes : List Mark) → front_home c ≡ home → is_lent n c.loans ≡ true → find_track (released_by home limit c bytes) n ≡ find_track c n

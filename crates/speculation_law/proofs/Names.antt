@@ -1,12 +1,12 @@
 -- Names, kinds and the loans of a name.
-use Rattle.std.proofs.Common.{◌≡◌, ℕ, zero, suc, ◌+◌, ◌<◌, ◌≤◌, Bool, true, false, not, ◌&&◌, cond, if◌then◌else◌, List, [], ◌∷◌, ◌++◌, Option, Some, None, is_none, nat_eq, refl, sym, ap, ap₂, ◌∙◌, subst, eqb-true, eq-eqb, add-zero, arith}
+use Rattle.std.proofs.Common.{◌≡◌, ℕ, ◌+◌, ◌≤◌, Bool, true, false, not, ◌&&◌, if◌then◌else◌, List, [], ◌∷◌, ◌++◌, Option, Some, None, is_none, nat_eq, refl, sym, ap, ◌∙◌, subst, eqb-true, eq-eqb, arith}
 use Rattle.std.proofs.lemmas.Bool.{and_right, not-true, and_parts, and_from}
 use Rattle.speculation.specs.declared.tracks.Kind.{Kind}
 use Rattle.speculation.specs.declared.tracks.Kind.TheVariants.{Normal, Fast, Segment}
 use Rattle.speculation.specs.declared.tracks.Name.{Name}
 use Rattle.speculation.specs.declared.tracks.OpenLoan.{OpenLoan}
-use Rattle.speculation.specs.Core.{Core, Track, Region, name_eq, lead_name, is_kind, is_lent, is_named, at_home, find_loan, find_normal, track_by, find_track}
-use Rattle.speculation.specs.Effects.{dropped_by, drop_loan, drop_loans}
+use Rattle.speculation.specs.Core.{Core, Track, name_eq, lead_name, is_kind, is_lent, is_named, at_home, find_loan, find_normal, track_by, find_track}
+use Rattle.speculation.specs.Effects.{dropped_by, drop_loans}
 use Rattle.speculation.specs.Events.{end_loan}
 use Rattle.speculation_law.specs.Sound.{one_if, count_lent}
 
@@ -42,7 +42,7 @@ name_eq-true a b h =
 pub name_eq-refl : (a : Name) → name_eq a a ≡ true
 name_eq-refl a =
     and_from (nat_eq a.generation a.generation) (nat_eq a.region a.region && (if a.normal then a.normal else not a.normal)) (eq-eqb a.generation a.generation refl)
-      (and_from (nat_eq a.region a.region) (if a.normal then a.normal else not a.normal) (eq-eqb a.region a.region refl) (bool_same a.normal))
+    (and_from (nat_eq a.region a.region) (if a.normal then a.normal else not a.normal) (eq-eqb a.region a.region refl) (bool_same a.normal))
 
 pub name_eq-same : (a b : Name) → a ≡ b → name_eq a b ≡ true
 name_eq-same a b h = subst (λ (n : Name). name_eq a n ≡ true) h (name_eq-refl a)
@@ -122,7 +122,6 @@ back-home_by n x l ls true is found live once rest =
 back-home_by n x l ls false is found live once rest =
     let none = rest found (omega arith) in
     let zero_here : one_if (name_eq n x.name && is_none x.dropped) ≡ 0 = ap (λ t. one_if (t && is_none x.dropped)) is in omega arith
-
 
 count_lent-back : (n : Name) (l : OpenLoan) (ls : List OpenLoan) → find_loan n ls ≡ Some l → l.dropped ≡ None → count_lent n ls ≤ 1 → count_lent n (end_loan n ls) ≡ 0
 count_lent-back n l [] found live once = absurd (cc)

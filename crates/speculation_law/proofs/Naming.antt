@@ -1,28 +1,26 @@
 -- Live tracks and loans have different names, and each loan names what it should.
-use Rattle.std.proofs.Common.{◌≡◌, ℕ, zero, suc, ◌+◌, ◌-◌, ◌<◌, ◌≤◌, Bool, true, false, not, ◌&&◌, List, [], ◌∷◌, ◌++◌, Option, Some, None, length, nat_eq, refl, sym, ap, ap₂, ◌∙◌, subst, length-append, arith}
-use Rattle.std.proofs.lemmas.Bool.{and_parts, not-true}
+use Rattle.std.proofs.Common.{◌≡◌, ℕ, suc, ◌-◌, ◌<◌, Bool, true, false, List, [], ◌∷◌, ◌++◌, Option, Some, None, length, refl, sym, ap, ◌∙◌, subst, length-append, arith}
 use Rattle.speculation.specs.declared.tracks.Name.{Name}
 use Rattle.speculation.specs.declared.tracks.OpenLoan.{OpenLoan}
 use Rattle.speculation.specs.declared.history.Settings.{Settings}
 use Rattle.speculation.specs.declared.history.Entry.{Entry}
 use Rattle.speculation.specs.Machine.{Machine}
 use Rattle.speculation.specs.Run.{Mark}
-use Rattle.speculation.specs.Verdicts.{Verdict, Kept, Differs, Stopped, Late, Judged}
+use Rattle.speculation.specs.Verdicts.{Verdict, Kept, Differs, Stopped, Late}
 use Rattle.speculation.specs.Ledger.{Row}
-use Rattle.speculation.specs.Core.{Core, Track, Region, opening, over, name_eq, lead_name, normal_name, is_lent, is_named, at_home, lead_home, find_loan, find_track, front_name, front_home, track_point, verified}
+use Rattle.speculation.specs.Core.{Core, Track, Region, opening, name_eq, lead_name, normal_name, is_lent, at_home, lead_home, find_loan, find_track, front_name, front_home, track_point, verified}
 use Rattle.speculation.specs.Due.{Judgement, Due, Finishing, Crossing, Judging, Forking, due}
-use Rattle.speculation.specs.Effects.{row_of, dropped_by, drop_loan, drop_loans, crossed_core, forked_core, kept_core, dropped_core, judged_core, effect}
-use Rattle.speculation.specs.Events.{end_loan, gone_live, released_by, released_core}
+use Rattle.speculation.specs.Effects.{row_of, dropped_by, crossed_core, forked_core, kept_core, dropped_core, judged_core, effect}
+use Rattle.speculation.specs.Events.{end_loan, gone_live, released_by}
 use Rattle.speculation_law.specs.Naming.{Rising, Distinct, IsLive, Named}
-use Rattle.speculation_law.proofs.Names.{FoundTrack, Original, Lead, find_track-found, name_eq-true, name_eq-same, is_lent-found, home-lent}
+use Rattle.speculation_law.proofs.Names.{FoundTrack, Original, Lead, find_track-found, name_eq-true, is_lent-found, home-lent}
 use Rattle.speculation_law.proofs.Dues.{IsJudged, due-crossing, due-judging, due-forking, verdict_due-some, cross_test-true, fork_test-true}
 use Rattle.speculation_law.proofs.Lending.{Lendable}
 use Rattle.speculation_law.proofs.Happens.{Happens, Lends, Returns, Vanishes, Releases, Halts, Does, lent_core, back_core}
-use Rattle.speculation_law.proofs.FindLoan.{find_loan-append, find_loan-new, FoundAppended, Older, Newest, find_loan-appended, find_loan-ended, find_loan-before, FoundDropped, find_loan-was, Distinct-append, Distinct-end, Distinct-drop}
+use Rattle.speculation_law.proofs.FindLoan.{FoundAppended, Older, Newest, find_loan-appended, find_loan-ended, find_loan-before, find_loan-was, Distinct-append, Distinct-end, Distinct-drop}
 use Rattle.speculation_law.proofs.LiveTracks.{rising-lower, rising-crossed, rising-forked, rising-released, rising-back, find_track-back, home-apart, find_track-crossed, find_track-forked, find_track-kept, find_track-released}
 
 module _ {S E D : Type 0} where
-
   found-generation : (c : Core S E D) (n : Name) (t : Track S) → FoundTrack c n t → n.generation ≡ c.generation
   found-generation c n t (Original generation normal found) = generation
   found-generation c n t (Lead normal named lead) = ap (λ (x : Name). x.generation) named
@@ -45,17 +43,18 @@ module _ {S E D : Type 0} where
   find_loan-home c n named live home = free-at c n (find_loan n c.loans) refl named live home
 
 module _ {S E D : Type 0} (m : Machine S E D) (b : Settings) where
-
   named-lent : (c : Core S E D) (seat : ℕ) (n : Name) (t : Track S) → Named c → Lendable m b c n t → Named (lent_core c seat n)
   named-lent c seat n t h can = record {
     rising = h.rising;
     distinct = Distinct-append c.loans (record { seat = seat; name = n; dropped = None }) h.distinct (find_loan-home c n h (t, can.found) (home-lent c n can.home));
     live = λ k l found undropped. live-by k l undropped (find_loan-appended k c.loans (record { seat = seat; name = n; dropped = None }) l found);
-    dropped = λ k l row found is. dropped-at k l row is (find_loan-appended k c.loans (record { seat = seat; name = n; dropped = None }) l found) }
+    dropped = λ k l row found is. dropped-at k l row is (find_loan-appended k c.loans (record { seat = seat; name = n; dropped = None }) l found);
+  }
     where
       live-by : (k : Name) (l : OpenLoan) → l.dropped ≡ None → FoundAppended k c.loans (record { seat = seat; name = n; dropped = None }) l → IsLive c k
       live-by k l undropped (Older found) = h.live k l found undropped
       live-by k l undropped (Newest none name same) = (t, ap (λ (x : Name). find_track c x) name ∙ can.found)
+
       dropped-at : (k : Name) (l : OpenLoan) (row : ℕ) → l.dropped ≡ Some row → FoundAppended k c.loans (record { seat = seat; name = n; dropped = None }) l → (k.generation < c.generation) × (row < length c.rows)
       dropped-at k l row is (Older found) = h.dropped k l row found is
       dropped-at k l row is (Newest none name same) = absurd (let not : None ≡ Some row = ap (λ (x : OpenLoan). x.dropped) same ∙ is in cc)
@@ -69,40 +68,51 @@ module _ {S E D : Type 0} (m : Machine S E D) (b : Settings) where
     rising = rising-back m b 0 c.last n.region n.normal c.regions h.rising;
     distinct = Distinct-end n c.loans h.distinct;
     live = λ k l at undropped. (let live = h.live k l (find_loan-before k n l c.loans h.distinct at) undropped in
-      (live.0, find_track-back m b c k n t (find_track-found c n t found) (ended-apart k n c.loans l (name_eq n k) refl h.distinct at) ∙ live.1));
-    dropped = λ k l row at is. h.dropped k l row (find_loan-before k n l c.loans h.distinct at) is }
+        (live.0, find_track-back m b c k n t (find_track-found c n t found) (ended-apart k n c.loans l (name_eq n k) refl h.distinct at) ∙ live.1));
+    dropped = λ k l row at is. h.dropped k l row (find_loan-before k n l c.loans h.distinct at) is;
+  }
 
   named-gone : (c : Core S E D) (n : Name) (o : Option ℕ) → Named c → Named (gone_live c n o)
   named-gone c n (Some row) h = record {
-    rising = h.rising; distinct = Distinct-end n c.loans h.distinct;
+    rising = h.rising;
+    distinct = Distinct-end n c.loans h.distinct;
     live = λ k l at undropped. h.live k l (find_loan-before k n l c.loans h.distinct at) undropped;
-    dropped = λ k l row at is. h.dropped k l row (find_loan-before k n l c.loans h.distinct at) is }
+    dropped = λ k l row at is. h.dropped k l row (find_loan-before k n l c.loans h.distinct at) is;
+  }
   named-gone c n None h = record {
-    rising = h.rising; distinct = Distinct-end n c.loans h.distinct;
+    rising = h.rising;
+    distinct = Distinct-end n c.loans h.distinct;
     live = λ k l at undropped. h.live k l (find_loan-before k n l c.loans h.distinct at) undropped;
-    dropped = λ k l row at is. h.dropped k l row (find_loan-before k n l c.loans h.distinct at) is }
+    dropped = λ k l row at is. h.dropped k l row (find_loan-before k n l c.loans h.distinct at) is;
+  }
 
   named-released_by : (c : Core S E D) (home : Bool) (limit : ℕ) (bytes : List Mark) → front_home c ≡ home → Named c → Named (released_by home limit c bytes)
   named-released_by c true limit bytes is h = record {
-    rising = rising-released 0 c.last limit c.regions h.rising; distinct = h.distinct;
+    rising = rising-released 0 c.last limit c.regions h.rising;
+    distinct = h.distinct;
     live = λ k l at undropped. (let live = h.live k l at undropped in
-      (live.0, find_track-released m b c k true limit bytes is (is_lent-found k l c.loans at undropped) ∙ live.1));
-    dropped = h.dropped }
+        (live.0, find_track-released m b c k true limit bytes is (is_lent-found k l c.loans at undropped) ∙ live.1));
+    dropped = h.dropped;
+  }
   named-released_by c false limit bytes is h = record { rising = h.rising; distinct = h.distinct; live = h.live; dropped = h.dropped }
 
   named-crossed : (c : Core S E D) → Named c → lead_home c ≡ true → Named (crossed_core m c)
   named-crossed c h home = record {
-    rising = rising-crossed 0 c.last c.regions c.lead.own (track_point m c.lead).state h.rising; distinct = h.distinct;
+    rising = rising-crossed 0 c.last c.regions c.lead.own (track_point m c.lead).state h.rising;
+    distinct = h.distinct;
     live = λ k l at undropped. (let live = h.live k l at undropped in
-      (live.0, find_track-crossed m b c k (home-apart m b c k (lead_name c) (is_lent-found k l c.loans at undropped) home) ∙ live.1));
-    dropped = h.dropped }
+        (live.0, find_track-crossed m b c k (home-apart m b c k (lead_name c) (is_lent-found k l c.loans at undropped) home) ∙ live.1));
+    dropped = h.dropped;
+  }
 
   named-forked : (c : Core S E D) → Named c → lead_home c ≡ true → Named (forked_core m c)
   named-forked c h home = record {
-    rising = rising-forked 0 c.last c.regions (record { steps = c.lead.own; pieces = c.lead.held }) (track_point m c.lead).state h.rising; distinct = h.distinct;
+    rising = rising-forked 0 c.last c.regions (record { steps = c.lead.own; pieces = c.lead.held }) (track_point m c.lead).state h.rising;
+    distinct = h.distinct;
     live = λ k l at undropped. (let live = h.live k l at undropped in
-      (live.0, find_track-forked m b c k live.0 h.rising (find_track-found c k live.0 live.1) (home-apart m b c k (lead_name c) (is_lent-found k l c.loans at undropped) home) ∙ live.1));
-    dropped = h.dropped }
+        (live.0, find_track-forked m b c k live.0 h.rising (find_track-found c k live.0 live.1) (home-apart m b c k (lead_name c) (is_lent-found k l c.loans at undropped) home) ∙ live.1));
+    dropped = h.dropped;
+  }
 
   rows-more : (rows : List (Row D)) (r : Row D) (row : ℕ) → row < length rows → row < length (rows ++ (r ∷ []))
   rows-more rows r row h = (let l = length-append rows (r ∷ []) in omega arith)
@@ -116,10 +126,11 @@ module _ {S E D : Type 0} (m : Machine S E D) (b : Settings) where
     rising = (let rising : Rising 0 c.last (v.region ∷ v.younger) = subst (λ rs. Rising 0 c.last rs) j.open_regions h.rising in rising-lower v.region.number 0 c.last v.younger (omega arith) rising.1);
     distinct = h.distinct;
     live = λ k l at undropped. (let live = h.live k l at undropped in
-      let home : at_home c (normal_name c v.region) ≡ true = front-home_at c v.region v.younger j.open_regions j.home in
-      let same : find_track (record c { regions = v.region ∷ v.younger }) k ≡ find_track c k = ap (λ rs. find_track (record c { regions = rs }) k) (sym j.open_regions) in
-      (live.0, find_track-kept m b c k v.region v.younger (home-apart m b c k (normal_name c v.region) (is_lent-found k l c.loans at undropped) home) ∙ same ∙ live.1));
-    dropped = λ k l row at is. (let old = h.dropped k l row at is in (old.0, rows-more c.rows (row_of m c v.region v.judged) row old.1)) }
+        let home : at_home c (normal_name c v.region) ≡ true = front-home_at c v.region v.younger j.open_regions j.home in
+        let same : find_track (record c { regions = v.region ∷ v.younger }) k ≡ find_track c k = ap (λ rs. find_track (record c { regions = rs }) k) (sym j.open_regions) in
+        (live.0, find_track-kept m b c k v.region v.younger (home-apart m b c k (normal_name c v.region) (is_lent-found k l c.loans at undropped) home) ∙ same ∙ live.1));
+    dropped = λ k l row at is. (let old = h.dropped k l row at is in (old.0, rows-more c.rows (row_of m c v.region v.judged) row old.1));
+  }
 
   drop-none : (row : ℕ) (o : Option ℕ) → dropped_by row o ≡ None → ⊥
   drop-none row None h = cc
@@ -130,9 +141,10 @@ module _ {S E D : Type 0} (m : Machine S E D) (b : Settings) where
     rising = omega arith;
     distinct = Distinct-drop (length c.rows) c.loans h.distinct;
     live = λ k l at undropped. (let was = find_loan-was k (length c.rows) c.loans l at in
-      absurd (drop-none (length c.rows) was.loan.dropped (ap (λ (x : OpenLoan). x.dropped) was.is ∙ undropped)));
+        absurd (drop-none (length c.rows) was.loan.dropped (ap (λ (x : OpenLoan). x.dropped) was.is ∙ undropped)));
     dropped = λ k l row at is. (let was = find_loan-was k (length c.rows) c.loans l at in
-      dropped-now k row was.loan was.loan.dropped was.found refl (ap (λ (x : OpenLoan). x.dropped) was.is ∙ is)) }
+        dropped-now k row was.loan was.loan.dropped was.found refl (ap (λ (x : OpenLoan). x.dropped) was.is ∙ is));
+  }
     where
       dropped-now : (k : Name) (row : ℕ) (loan : OpenLoan) (o : Option ℕ) → find_loan k c.loans ≡ Some loan → loan.dropped ≡ o → dropped_by (length c.rows) o ≡ Some row
           → (k.generation < suc c.generation) × (row < length (c.rows ++ (row_of m c v.region v.judged ∷ [])))

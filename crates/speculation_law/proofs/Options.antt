@@ -1,5 +1,5 @@
 -- Tests and options taken apart.
-use Rattle.std.proofs.Common.{◌≡◌, Bool, true, false, not, ◌&&◌, ◌||◌, Option, Some, None, is_some, is_none, refl}
+use Rattle.std.proofs.Common.{◌≡◌, Bool, true, false, Option, Some, None, is_some, is_none, refl}
 use Rattle.speculation.specs.Events.{some_if}
 
 -- what a guarded value that is there says

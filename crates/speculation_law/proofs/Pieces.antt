@@ -1,8 +1,8 @@
 -- The marked bytes of numbered pieces up to a limit, and the output of runs within a budget.
-use Rattle.std.proofs.Common.{◌≡◌, ℕ, zero, suc, ◌+◌, ◌-◌, ◌<◌, ◌≤◌, min, Bool, true, false, cond, if◌then◌else◌, List, [], ◌∷◌, ◌++◌, Option, Some, None, nat_le, refl, sym, ap, ap₂, ◌∙◌, subst, inl, inr, le-leb, append_assoc, append-nil, arith}
+use Rattle.std.proofs.Common.{◌≡◌, ℕ, zero, suc, ◌+◌, ◌-◌, ◌<◌, ◌≤◌, min, Bool, true, false, if◌then◌else◌, List, [], ◌∷◌, ◌++◌, Option, Some, None, nat_le, refl, sym, ap, ap₂, ◌∙◌, inl, inr, le-leb, append_assoc, append-nil, arith}
 use Rattle.std.proofs.lemmas.Bool.{cases_lt, lt-leb}
 use Rattle.speculation.specs.Machine.{Machine, Stepped, Next, Ends}
-use Rattle.speculation.specs.Run.{Mark, Piece, Point, marked, marks, marks_upto, go, piece_of, wrote, pieces, out}
+use Rattle.speculation.specs.Run.{Piece, Point, marked, marks, marks_upto, go, piece_of, wrote, pieces, out}
 use Rattle.speculation.specs.Events.{left_over}
 use Rattle.speculation.proofs.Outputs.{marks-append, out-add, marks-pieces}
 use Rattle.speculation_law.specs.Sound.{Numbered}
@@ -52,7 +52,6 @@ Numbered-left_over low high limit [] h = tt
 Numbered-left_over low high limit (p ∷ ps) h = left_over-numbered_by low high p (left_over limit ps) (nat_le p.number limit) h.0 h.1 (Numbered-left_over low high limit ps h.2)
 
 module _ {S E D : Type 0} (m : Machine S E D) where
-
   numbered-piece_of : (k : ℕ) (w : Stepped S E) → Numbered k (suc k) (piece_of (suc k) w)
   numbered-piece_of k (Next t stream []) = tt
   numbered-piece_of k (Next t stream (b ∷ bs)) = (omega arith, omega arith, tt)
@@ -68,9 +67,9 @@ module _ {S E D : Type 0} (m : Machine S E D) where
   numbered-pieces p k zero = tt
   numbered-pieces p k (suc n) =
       Numbered-append k (k + suc n) (pieces m p k n) _
-        (Numbered-wider k (k + n) k (k + suc n) (pieces m p k n) (omega arith) (omega arith) (numbered-pieces p k n))
-        (Numbered-wider (k + n) (suc (k + n)) k (k + suc n) (wrote m (suc (k + n)) (go m p n).state (go m p n).end) (omega arith) (omega arith)
-          (numbered-wrote (k + n) (go m p n).state (go m p n).end))
+      (Numbered-wider k (k + n) k (k + suc n) (pieces m p k n) (omega arith) (omega arith) (numbered-pieces p k n))
+      (Numbered-wider (k + n) (suc (k + n)) k (k + suc n) (wrote m (suc (k + n)) (go m p n).state (go m p n).end) (omega arith) (omega arith)
+      (numbered-wrote (k + n) (go m p n).state (go m p n).end))
 
   out-suc : (p : Point S E) (k n : ℕ) → out m p (suc n) ≡ out m p n ++ marks (wrote m (suc (k + n)) (go m p n).state (go m p n).end)
   unfolding out pieces
@@ -83,16 +82,17 @@ module _ {S E D : Type 0} (m : Machine S E D) where
   unfolding pieces out
   marks_upto-pieces limit p k zero = (let none : min (limit - k) 0 ≡ 0 = omega arith in sym (ap (λ i. marks (pieces m p 0 i)) none))
   marks_upto-pieces limit p k (suc n) = elim (cases_lt (k + n) limit) [
-      inl less ↦ (let short : min (limit - k) n ≡ n = omega arith in let long : min (limit - k) (suc n) ≡ suc n = omega arith in
+    | inl less ↦ (let short : min (limit - k) n ≡ n = omega arith in let long : min (limit - k) (suc n) ≡ suc n = omega arith in
         marks_upto-append limit (pieces m p k n) (wrote m (suc (k + n)) (go m p n).state (go m p n).end)
         ∙ ap₂ (λ ms ns. ms ++ ns) (marks_upto-pieces limit p k n ∙ ap (out m p) short)
-            (marks_upto-all (k + n) (suc (k + n)) limit (wrote m (suc (k + n)) (go m p n).state (go m p n).end) (numbered-wrote (k + n) (go m p n).state (go m p n).end) less)
+        (marks_upto-all (k + n) (suc (k + n)) limit (wrote m (suc (k + n)) (go m p n).state (go m p n).end) (numbered-wrote (k + n) (go m p n).state (go m p n).end) less)
         ∙ sym (out-suc p k n) ∙ sym (ap (out m p) long))
     | inr more ↦ (let same : min (limit - k) n ≡ min (limit - k) (suc n) = omega arith in
         marks_upto-append limit (pieces m p k n) (wrote m (suc (k + n)) (go m p n).state (go m p n).end)
         ∙ ap₂ (λ ms ns. ms ++ ns) (marks_upto-pieces limit p k n)
-            (marks_upto-none (k + n) (suc (k + n)) limit (wrote m (suc (k + n)) (go m p n).state (go m p n).end) (numbered-wrote (k + n) (go m p n).state (go m p n).end) more)
-        ∙ append-nil (out m p (min (limit - k) n)) ∙ ap (out m p) same) ]
+        (marks_upto-none (k + n) (suc (k + n)) limit (wrote m (suc (k + n)) (go m p n).state (go m p n).end) (numbered-wrote (k + n) (go m p n).state (go m p n).end) more)
+        ∙ append-nil (out m p (min (limit - k) n)) ∙ ap (out m p) same)
+  ]
 
   pub out-zero : (p : Point S E) → out m p 0 ≡ []
   unfolding out pieces
@@ -101,7 +101,8 @@ module _ {S E D : Type 0} (m : Machine S E D) where
   -- outputs within a budget add up
   pub out-min : (p : Point S E) (l a b : ℕ) → out m p (min l (a + b)) ≡ out m p (min l a) ++ out m (go m p a) (min (l - a) b)
   out-min p l a b = elim (cases_lt a l) [
-      inl less ↦ (let first : min l a ≡ a = omega arith in let whole : min l (a + b) ≡ a + min (l - a) b = omega arith in
+    | inl less ↦ (let first : min l a ≡ a = omega arith in let whole : min l (a + b) ≡ a + min (l - a) b = omega arith in
         ap (out m p) whole ∙ out-add m p a (min (l - a) b) ∙ ap (λ i. out m p i ++ out m (go m p a) (min (l - a) b)) (sym first))
     | inr more ↦ (let first : min l (a + b) ≡ min l a = omega arith in let none : min (l - a) b ≡ 0 = omega arith in
-        ap (out m p) first ∙ sym (append-nil (out m p (min l a))) ∙ ap (λ ms. out m p (min l a) ++ ms) (sym (ap (out m (go m p a)) none ∙ out-zero (go m p a)))) ]
+        ap (out m p) first ∙ sym (append-nil (out m p (min l a))) ∙ ap (λ ms. out m p (min l a) ++ ms) (sym (ap (out m (go m p a)) none ∙ out-zero (go m p a))))
+  ]

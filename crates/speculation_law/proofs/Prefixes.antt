@@ -1,16 +1,15 @@
 -- What begins a legal history is legal, and only seat 0 releases.
-use Rattle.std.proofs.Common.{◌≡◌, ◌≢◌, ℕ, ◌-◌, Bool, true, false, List, [], ◌∷◌, ◌++◌, Option, Some, None, refl, sym, ap, ◌∙◌, subst}
+use Rattle.std.proofs.Common.{◌≡◌, ◌≢◌, ℕ, List, [], ◌∷◌, ◌++◌, Option, Some, None, refl, sym, ap, ◌∙◌}
 use Rattle.speculation.specs.declared.tracks.Name.{Name}
 use Rattle.speculation.specs.declared.history.Settings.{Settings}
 use Rattle.speculation.specs.declared.history.Entry.{Entry}
 use Rattle.speculation.specs.declared.history.Entry.TheVariants.{Release}
 use Rattle.speculation.specs.Machine.{Machine}
 use Rattle.speculation.specs.Verdicts.{Verdict, Kept, Differs, Stopped, Late}
-use Rattle.speculation.specs.Core.{Core, opening}
+use Rattle.speculation.specs.Core.{Core}
 use Rattle.speculation.specs.Due.{Judgement, Due, Finishing, Crossing, Judging, Forking}
 use Rattle.speculation.specs.Effects.{judged_core, effect}
 use Rattle.speculation.specs.Events.{gone_live, event, core_run}
-use Rattle.speculation.specs.Law.{IsHistory}
 use Rattle.speculation.specs.Loans.{owner_of, IsForeign}
 use Rattle.speculation_law.proofs.Happens.{Happens, Lends, Returns, Vanishes, Releases, Halts, Does, event-happens}
 use Rattle.speculation_law.proofs.Soundness.{core_run-append}
@@ -22,7 +21,6 @@ pub record Parted {S E D : Type 0} (m : Machine S E D) (b : Settings) (o : Optio
   pub second : core_run m b (Some middle) ys ≡ Some c
 
 module _ {S E D : Type 0} (m : Machine S E D) (b : Settings) where
-
   parted-by : (start : S) (o : Option (Core S E D)) (xs ys : List Entry) (c : Core S E D) (k : Option (Core S E D)) → core_run m b o xs ≡ k → core_run m b k ys ≡ Some c → Parted m b o xs ys c
   unfolding core_run
   parted-by start o xs [] c None is h = absurd (cc)

@@ -1,23 +1,22 @@
 -- Where nothing is due, verified or lendable, and nothing is lent, the core is over.
-use Rattle.std.proofs.Common.{◌≡◌, ℕ, zero, suc, ◌+◌, ◌-◌, ◌<◌, ◌≤◌, Bool, true, false, not, ◌&&◌, ◌||◌, if◌then◌else◌, List, [], ◌∷◌, ◌++◌, Option, Some, None, length, is_some, nat_eq, nat_lt, nat_le, refl, sym, ap, ap₂, ◌∙◌, subst, eq-eqb, ne_eqb, lt-ltb, ltb-true, ltb-false, leb-true, leb-false, arith}
+use Rattle.std.proofs.Common.{◌≡◌, ℕ, ◌+◌, ◌-◌, ◌<◌, ◌≤◌, Bool, true, false, not, ◌&&◌, ◌||◌, if◌then◌else◌, List, [], ◌∷◌, ◌++◌, Option, Some, None, length, is_some, nat_eq, nat_lt, nat_le, refl, sym, ap, ap₂, ◌∙◌, subst, eq-eqb, ne_eqb, lt-ltb, ltb-true, arith}
 use Rattle.std.proofs.lemmas.Bool.{lt-leb, and_right, and_from, or_from}
-use Rattle.speculation.specs.declared.tracks.Kind.{Kind}
 use Rattle.speculation.specs.declared.tracks.Kind.TheVariants.{Normal, Fast, Segment}
 use Rattle.speculation.specs.declared.tracks.Name.{Name}
 use Rattle.speculation.specs.declared.history.Settings.{Settings}
 use Rattle.speculation.specs.Machine.{Machine}
-use Rattle.speculation.specs.Run.{Mark, Piece, Point, marks, marks_upto, fresh, go}
-use Rattle.speculation.specs.Verdicts.{Verdict, Late, Stopped, Judged, Seen, Running, Ended, Met, judge, compared}
-use Rattle.speculation.specs.Core.{Core, Track, Part, Open, Closed, Between, Region, Finished, over, lead_name, normal_name, at_home, lead_home, find_normal, track_by, find_track, front, front_of, front_name, front_home, verified, track_point, at_boundary, has_stop, is_kind, held_size, most_held}
-use Rattle.speculation.specs.Due.{Judgement, Due, finish_by, finish_test, cross_test, seen_lead, seen, judgement, verdict_due, fork_test, choose, due}
-use Rattle.speculation.specs.Events.{wanted, ready_to_go, is_ready, lendable}
+use Rattle.speculation.specs.Run.{Mark, Piece, marks, marks_upto, fresh, go}
+use Rattle.speculation.specs.Verdicts.{Late, Stopped, Judged, Seen, Running, Ended, Met, judge, compared}
+use Rattle.speculation.specs.Core.{Core, Track, Part, Open, Closed, Region, Finished, over, lead_name, normal_name, at_home, lead_home, find_normal, track_by, find_track, front, front_of, front_home, verified, track_point, at_boundary, has_stop, is_kind, held_size, most_held}
+use Rattle.speculation.specs.Due.{Judgement, finish_by, finish_test, cross_test, seen_lead, seen, judgement, verdict_due, fork_test, choose, due}
+use Rattle.speculation.specs.Events.{wanted, is_ready, lendable}
 use Rattle.speculation.specs.Serial.{first_lendable}
-use Rattle.speculation_law.specs.Facts.{Linked, Tail, Chain, FastTrack, SegmentTrack, NormalTrack}
+use Rattle.speculation_law.specs.Facts.{Tail, SegmentTrack}
 use Rattle.speculation_law.specs.Sound.{Good}
 use Rattle.speculation_law.proofs.Pieces.{marks_upto-all}
-use Rattle.speculation_law.proofs.Dues.{Unfinished, Below, AtBoundary}
+use Rattle.speculation_law.proofs.Dues.{Unfinished}
 use Rattle.speculation_law.proofs.Judging.{tail-open}
-use Rattle.speculation_law.proofs.SerialRounds.{Solo, solo-home, solo-front}
+use Rattle.speculation_law.proofs.SerialRounds.{Solo, solo-home}
 use Rattle.speculation_law.proofs.Fronts.{unfinished-unspent, unfinished-case, within-by, below-by}
 
 -- what it says that nothing is due
@@ -48,12 +47,11 @@ finish_by-ended budget count e true reached closed h = cc
 finish_by-ended budget count e false reached closed h = cc
 
 module _ {S E D : Type 0} (m : Machine S E D) (b : Settings) where
-
   due-none : (c : Core S E D) → over c ≡ false → due m b c ≡ None → NoneChosen (finish_test m b c.base (front_home c) (front c)) (cross_test m c) (verdict_due m c c.regions) (fork_test m b c)
   unfolding due
   due-none c live h =
       choose-none (finish_test m b c.base (front_home c) (front c)) (cross_test m c) (verdict_due m c c.regions) (fork_test m b c)
-        (sym (ap (λ o. choose o (finish_test m b c.base (front_home c) (front c)) (cross_test m c) (verdict_due m c c.regions) (fork_test m b c)) live) ∙ h)
+      (sym (ap (λ o. choose o (finish_test m b c.base (front_home c) (front c)) (cross_test m c) (verdict_due m c c.regions) (fork_test m b c)) live) ∙ h)
 
   going-by : (o : Option E) (budget count : ℕ) (spent home within reached closed : Bool) → spent ≡ false → home ≡ true → finish_by budget count spent home o within reached closed ≡ None → o ≡ None
   going-by None budget count spent home within reached closed p q h = refl
@@ -65,13 +63,13 @@ module _ {S E D : Type 0} (m : Machine S E D) (b : Settings) where
   front-unended : (base : ℕ) (home : Bool) (t : Track S) → base < b.budget → home ≡ true → finish_test m b base home t ≡ None → (track_point m t).end ≡ None
   front-unended base home t unspent is h =
       going-by (track_point m t).end b.budget (base + t.own) (nat_le b.budget base) home (nat_le t.own (b.budget - base)) (nat_le (b.budget - base) t.own) (is_kind t.kind Normal && at_boundary m t)
-        (lt-leb b.budget base unspent) is h
+      (lt-leb b.budget base unspent) is h
 
   -- a track with none of the stops
   no-stop : (t : Track S) → at_boundary m t ≡ false → (track_point m t).end ≡ None → t.own < b.budget → has_stop m b t ≡ false
   no-stop t inside going less =
       or_from (at_boundary m t) (is_some (track_point m t).end || nat_eq t.own b.budget) inside
-        (or_from (is_some (track_point m t).end) (nat_eq t.own b.budget) (ap is_some going) (ne_eqb t.own b.budget (λ same. absurd (omega arith))))
+      (or_from (is_some (track_point m t).end) (nat_eq t.own b.budget) (ap is_some going) (ne_eqb t.own b.budget (λ same. absurd (omega arith))))
 
   few : (ps : List Piece) → marks ps ≡ [] → nat_lt (held_size ps) most_held ≡ true
   unfolding most_held
@@ -81,9 +79,9 @@ module _ {S E D : Type 0} (m : Machine S E D) (b : Settings) where
       → (if is_kind t.kind Fast then wanted m c c.regions else true) ≡ true → lendable m b c n ≡ true
   lendable-so c n t live found home unstopped small useful =
       and_from (not (over c)) (is_ready m b c n (find_track c n)) (ap not live)
-        (ap (is_ready m b c n) found ∙ and_from (at_home c n) (not (has_stop m b t) && (nat_lt (held_size t.held) most_held && (if is_kind t.kind Fast then wanted m c c.regions else true))) home
-          (and_from (not (has_stop m b t)) (nat_lt (held_size t.held) most_held && (if is_kind t.kind Fast then wanted m c c.regions else true)) (ap not unstopped)
-            (and_from (nat_lt (held_size t.held) most_held) (if is_kind t.kind Fast then wanted m c c.regions else true) small useful)))
+      (ap (is_ready m b c n) found ∙ and_from (at_home c n) (not (has_stop m b t) && (nat_lt (held_size t.held) most_held && (if is_kind t.kind Fast then wanted m c c.regions else true))) home
+      (and_from (not (has_stop m b t)) (nat_lt (held_size t.held) most_held && (if is_kind t.kind Fast then wanted m c c.regions else true)) (ap not unstopped)
+      (and_from (nat_lt (held_size t.held) most_held) (if is_kind t.kind Fast then wanted m c c.regions else true) small useful)))
 
   lead-found : (c : Core S E D) → find_track c (lead_name c) ≡ Some c.lead
   lead-found c = ap₂ (λ p l. track_by p false l (find_normal c.last c.regions) c.lead) (eq-eqb c.generation c.generation refl) (eq-eqb c.last c.last refl)
@@ -113,7 +111,7 @@ module _ {S E D : Type 0} (m : Machine S E D) (b : Settings) where
   unfolding verified
   verified-none c home h =
       empty-append c.ready (marks_upto (b.budget - c.base) (front c).held)
-        (subst (λ (ms : List Mark). length ms ≤ 0) (ap (λ t. c.ready ++ (if t then marks_upto (b.budget - c.base) (front c).held else [])) home) h)
+      (subst (λ (ms : List Mark). length ms ≤ 0) (ap (λ t. c.ready ++ (if t then marks_upto (b.budget - c.base) (front c).held else [])) home) h)
 
   ready-none : (c : Core S E D) → length (verified b c) ≤ 0 → length c.ready ≤ 0
   unfolding verified
@@ -147,15 +145,15 @@ module _ {S E D : Type 0} (m : Machine S E D) (b : Settings) where
       stuck-so true is k less going empty ready closed =
           let kind : is_kind c.lead.kind Segment ≡ true = ap (λ x. is_kind x Segment) g.chain.kind in
           let forks : fork_test m b (record c { regions = [] }) ≡ true
-              = and_from (lead_home c) (is_kind c.lead.kind Segment && (at_boundary m c.lead && (nat_lt 0 b.tracks && nat_lt (length c.ready) most_held))) (solo-home c (lead_name c) solo)
-                (and_from (is_kind c.lead.kind Segment) (at_boundary m c.lead && (nat_lt 0 b.tracks && nat_lt (length c.ready) most_held)) kind
-                  (and_from (at_boundary m c.lead) (nat_lt 0 b.tracks && nat_lt (length c.ready) most_held) is
-                    (and_from (nat_lt 0 b.tracks) (nat_lt (length c.ready) most_held) (lt-ltb 0 b.tracks some) (most-pos (length c.ready) ready)))) in cc
+          = and_from (lead_home c) (is_kind c.lead.kind Segment && (at_boundary m c.lead && (nat_lt 0 b.tracks && nat_lt (length c.ready) most_held))) (solo-home c (lead_name c) solo)
+          (and_from (is_kind c.lead.kind Segment) (at_boundary m c.lead && (nat_lt 0 b.tracks && nat_lt (length c.ready) most_held)) kind
+          (and_from (at_boundary m c.lead) (nat_lt 0 b.tracks && nat_lt (length c.ready) most_held) is
+          (and_from (nat_lt 0 b.tracks) (nat_lt (length c.ready) most_held) (lt-ltb 0 b.tracks some) (most-pos (length c.ready) ready)))) in cc
       stuck-so false is k less going empty ready closed =
           let useful : (if is_kind c.lead.kind Fast then wanted m (record c { regions = [] }) [] else true) ≡ true = ap (λ x. if is_kind x Fast then wanted m (record c { regions = [] }) [] else true) g.chain.kind in
           let lends : lendable m b (record c { regions = [] }) (lead_name c) ≡ true
-              = lendable-so (record c { regions = [] }) (lead_name c) c.lead live (lead-found (record c { regions = [] })) (solo-home c (lead_name c) solo)
-                (no-stop c.lead is going (omega arith)) (few c.lead.held empty) useful in cc
+          = lendable-so (record c { regions = [] }) (lead_name c) c.lead live (lead-found (record c { regions = [] })) (solo-home c (lead_name c) solo)
+          (no-stop c.lead is going (omega arith)) (few c.lead.held empty) useful in cc
 
   -- the judge has no answer only while the fast version runs below the original's count
 
@@ -212,7 +210,7 @@ module _ {S E D : Type 0} (m : Machine S E D) (b : Settings) where
   uncrossed-inside : (c : Core S E D) (u : Bool) → at_boundary m c.lead ≡ u → lead_home c ≡ true → c.lead.kind ≡ Fast → cross_test m c ≡ false → u ≡ false
   uncrossed-inside c true is home kind h =
       absurd (let fast : is_kind c.lead.kind Fast ≡ true = ap (λ k. is_kind k Fast) kind in
-        let crosses : cross_test m c ≡ true = and_from (lead_home c) (is_kind c.lead.kind Fast && at_boundary m c.lead) home (and_from (is_kind c.lead.kind Fast) (at_boundary m c.lead) fast is) in cc)
+      let crosses : cross_test m c ≡ true = and_from (lead_home c) (is_kind c.lead.kind Fast && at_boundary m c.lead) home (and_from (is_kind c.lead.kind Fast) (at_boundary m c.lead) fast is) in cc)
   uncrossed-inside c false is home kind h = refl
 
   -- the oldest region is closed, and its fast version runs
@@ -227,9 +225,9 @@ module _ {S E D : Type 0} (m : Machine S E D) (b : Settings) where
       let less = runs.below in
       let inside = uncrossed-inside c (at_boundary m c.lead) refl (solo-home c (lead_name c) solo) fast.kind uncrossed in
       let useful : (if is_kind c.lead.kind Fast then wanted m k (r ∷ rs) else true) ≡ true
-          = ap (λ x. if is_kind x Fast then wanted m k (r ∷ rs) else true) fast.kind ∙ wanted-by k s r rs c.lead tail (solo-home c (normal_name c r) solo) here less in
+      = ap (λ x. if is_kind x Fast then wanted m k (r ∷ rs) else true) fast.kind ∙ wanted-by k s r rs c.lead tail (solo-home c (normal_name c r) solo) here less in
       let lends : lendable m b k (lead_name c) ≡ true
-          = lendable-so k (lead_name c) c.lead live (lead-found k) (solo-home c (lead_name c) solo) (no-stop c.lead inside runs.going (omega arith)) (few c.lead.held (ap marks fast.held)) useful in cc
+      = lendable-so k (lead_name c) c.lead live (lead-found k) (solo-home c (lead_name c) solo) (no-stop c.lead inside runs.going (omega arith)) (few c.lead.held (ap marks fast.held)) useful in cc
 
   stuck-regions_by : (start : S) (c : Core S E D) (r : Region S) (rs : List (Region S)) (u : Bool) → at_boundary m r.normal ≡ u → Good m b start (record c { regions = r ∷ rs }) → over c ≡ false → Solo c
       → finish_test m b c.base (front_home (record c { regions = r ∷ rs })) r.normal ≡ None → cross_test m c ≡ false → verdict_due m (record c { regions = r ∷ rs }) (r ∷ rs) ≡ None
@@ -248,17 +246,17 @@ module _ {S E D : Type 0} (m : Machine S E D) (b : Settings) where
           → r.normal.own ≤ b.budget - c.base → marks r.normal.held ≡ [] → ⊥
       stuck-so true is home going case_of le empty =
           let none_answer = judgement-none r rs (front_home (record c { regions = r ∷ rs }) && at_boundary m r.normal) (judge r.normal.own (seen m r.part (track_point m r.normal).state c.lead)) unjudged
-                (and_from (front_home (record c { regions = r ∷ rs })) (at_boundary m r.normal) home is) in
+          (and_from (front_home (record c { regions = r ∷ rs })) (at_boundary m r.normal) home is) in
           stuck-fast start c r rs g live solo uncrossed is (omega arith) (seen-running r.normal.own r.part (track_point m r.normal).state c.lead (judge-none r.normal.own (seen m r.part (track_point m r.normal).state c.lead) none_answer))
-            (lead-unlendable (record c { regions = r ∷ rs }) (r ∷ rs) unlendable)
+          (lead-unlendable (record c { regions = r ∷ rs }) (r ∷ rs) unlendable)
       stuck-so false is home going case_of le empty =
           let kind : r.normal.kind ≡ Normal = g.chain.normal.kind in
           let closed : (is_kind r.normal.kind Normal && at_boundary m r.normal) ≡ false = and_right (is_kind r.normal.kind Normal) (at_boundary m r.normal) is in
           let less = below-by m b start r.normal.own (b.budget - c.base) (is_kind r.normal.kind Normal && at_boundary m r.normal) closed case_of in
           let useful : (if is_kind r.normal.kind Fast then wanted m (record c { regions = r ∷ rs }) (r ∷ rs) else true) ≡ true
-              = ap (λ x. if is_kind x Fast then wanted m (record c { regions = r ∷ rs }) (r ∷ rs) else true) kind in
+          = ap (λ x. if is_kind x Fast then wanted m (record c { regions = r ∷ rs }) (r ∷ rs) else true) kind in
           let lends : lendable m b (record c { regions = r ∷ rs }) (normal_name c r) ≡ true
-              = lendable-so (record c { regions = r ∷ rs }) (normal_name c r) r.normal live (normal-found (record c { regions = r ∷ rs }) r rs refl) home (no-stop r.normal is going (omega arith)) (few r.normal.held empty) useful in
+          = lendable-so (record c { regions = r ∷ rs }) (normal_name c r) r.normal live (normal-found (record c { regions = r ∷ rs }) r rs refl) home (no-stop r.normal is going (omega arith)) (few r.normal.held empty) useful in
           let not_lends = none-by (normal_name c r) (first_lendable m b (record c { regions = r ∷ rs }) rs) (lendable m b (record c { regions = r ∷ rs }) (normal_name c r)) unlendable in cc
 
   stuck-by : (start : S) (c : Core S E D) (rs : List (Region S)) → c.regions ≡ rs → Good m b start (record c { regions = rs }) → over c ≡ false → Solo c → 0 < b.tracks

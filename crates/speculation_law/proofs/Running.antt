@@ -1,12 +1,11 @@
 -- A track that runs on by one slice meets nothing on the way, and holds what it writes.
-use Rattle.std.proofs.Common.{◌≡◌, ℕ, zero, suc, ◌+◌, ◌-◌, ◌<◌, ◌≤◌, Bool, true, false, ◌||◌, List, [], ◌++◌, Option, Some, None, is_some, nat_eq, nat_le, refl, sym, ap, ap₂, ◌∙◌, subst, inl, inr, eq-eqb, add-zero, add_assoc, arith}
+use Rattle.std.proofs.Common.{◌≡◌, ℕ, ◌+◌, ◌-◌, ◌<◌, false, ◌||◌, List, ◌++◌, is_some, nat_eq, nat_le, sym, ap, ap₂, ◌∙◌, subst, inl, inr, arith}
 use Rattle.std.proofs.lemmas.Bool.{cases_lt, or_parts}
 use Rattle.speculation.specs.declared.tracks.Kind.{Kind}
 use Rattle.speculation.specs.declared.tracks.Kind.TheVariants.{Normal, Fast, Segment}
 use Rattle.speculation.specs.declared.history.Settings.{Settings}
 use Rattle.speculation.specs.Machine.{Machine}
-use Rattle.speculation.specs.Run.{Piece, Point, fresh, go, pieces}
-use Rattle.speculation.specs.Tracks.{point, boundary, first_from}
+use Rattle.speculation.specs.Run.{Piece, fresh, go, pieces}
 use Rattle.speculation.specs.Core.{Track, track_point, at_boundary, has_stop, held_size, most_held, most_slice}
 use Rattle.speculation.specs.Events.{new_pieces, run_on, slice}
 use Rattle.speculation.proofs.Runs.{pieces-add}
@@ -15,7 +14,6 @@ use Rattle.speculation_law.proofs.Options.{is_some-none}
 use Rattle.speculation_law.proofs.Least.{first-below}
 
 module _ {S E D : Type 0} (m : Machine S E D) (b : Settings) where
-
   -- a track without a stop met nothing, and has not taken the whole budget
   pub record MetNothing (t : Track S) : Type 0 where
     pub met : NoStop m t.kind t.start t.own
@@ -32,13 +30,16 @@ module _ {S E D : Type 0} (m : Machine S E D) (b : Settings) where
   unfolding slice
   slice-unstopped t k less =
       has_stop-false (run_on m t k)
-        (or_parts (has_stop m b (run_on m t k)) (nat_le most_held (held_size (run_on m t k).held))
-          (first-below (λ i. has_stop m b (run_on m t i) || nat_le most_held (held_size (run_on m t i).held)) most_slice k less)).0
+      (or_parts (has_stop m b (run_on m t k)) (nat_le most_held (held_size (run_on m t k).held))
+      (first-below (λ i. has_stop m b (run_on m t i) || nat_le most_held (held_size (run_on m t i).held)) most_slice k less)).0
 
   least-more : (kind : Kind) (s : S) (own j : ℕ) → Unstopped m kind s own → ((k : ℕ) → k < j → NoStop m kind s (own + k)) → Unstopped m kind s (own + j)
-  least-more kind s own j least more = record { at = λ i less. elim (cases_lt i own) [
-      inl low ↦ least.at i low
-    | inr high ↦ (let k = i - own in let whole : own + k ≡ i = omega arith in subst (λ n. NoStop m kind s n) whole (more k (omega arith))) ] }
+  least-more kind s own j least more = record {
+    at = λ i less. elim (cases_lt i own) [
+      | inl low ↦ least.at i low
+      | inr high ↦ (let k = i - own in let whole : own + k ≡ i = omega arith in subst (λ n. NoStop m kind s n) whole (more k (omega arith)))
+    ];
+  }
 
   -- the facts of a track are those of its kind and start
   no_stop-at : (kind k2 : Kind) (s s2 : S) (n : ℕ) → kind ≡ k2 → s ≡ s2 → NoStop m kind s n → NoStop m k2 s2 n
@@ -66,12 +67,17 @@ module _ {S E D : Type 0} (m : Machine S E D) (b : Settings) where
 
   pub run-fast : (s : S) (t : Track S) → FastTrack m s t → FastTrack m s (run_on m t (slice m b t))
   run-fast s t h = record {
-    kind = h.kind; start = h.start; least = slice-least t Fast s h.kind h.start h.least;
-    held = ap₂ (λ (ps qs : List Piece). ps ++ qs) h.held (new-kind t.kind Fast t.start s t.own (slice m b t) h.kind h.start) }
+    kind = h.kind;
+    start = h.start;
+    least = slice-least t Fast s h.kind h.start h.least;
+    held = ap₂ (λ (ps qs : List Piece). ps ++ qs) h.held (new-kind t.kind Fast t.start s t.own (slice m b t) h.kind h.start);
+  }
 
   whole-more : (s : S) (t : Track S) (n : ℕ) → new_pieces m t.kind t.start t.own n ≡ pieces m (go m (fresh s) t.own) t.own n → Whole m s t → Whole m s (run_on m t n)
-  whole-more s t n new h = record { held = ap₂ (λ (ps qs : List Piece). ps ++ qs) h.held new ∙ sym (pieces-add m (fresh s) 0 t.own n
-      ∙ ap (λ k. pieces m (fresh s) 0 t.own ++ pieces m (go m (fresh s) t.own) k n) (let first : 0 + t.own ≡ t.own = omega arith in first)) }
+  whole-more s t n new h = record {
+    held = ap₂ (λ (ps qs : List Piece). ps ++ qs) h.held new ∙ sym (pieces-add m (fresh s) 0 t.own n
+        ∙ ap (λ k. pieces m (fresh s) 0 t.own ++ pieces m (go m (fresh s) t.own) k n) (let first : 0 + t.own ≡ t.own = omega arith in first));
+  }
 
   pub whole-normal : (s : S) (t : Track S) (n : ℕ) → NormalTrack m s t → Whole m s t → Whole m s (run_on m t n)
   whole-normal s t n h w = whole-more s t n (new-normal s t n h) w

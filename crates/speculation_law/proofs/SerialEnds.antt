@@ -1,11 +1,11 @@
 -- The serial history ends, and then the core has a finish and nothing is left to release.
-use Rattle.std.proofs.Common.{◌≡◌, ℕ, zero, suc, ◌-◌, ◌<◌, ◌≤◌, Bool, true, false, not, ◌||◌, List, [], ◌∷◌, ◌++◌, Option, Some, None, length, is_some, nat_lt, refl, sym, ap, ap₂, ◌∙◌, subst, ltb-false, arith}
+use Rattle.std.proofs.Common.{◌≡◌, ℕ, zero, suc, ◌-◌, ◌<◌, ◌≤◌, Bool, true, false, ◌||◌, List, [], ◌∷◌, ◌++◌, Option, Some, None, length, is_some, nat_lt, refl, ap, ◌∙◌, ltb-false, arith}
 use Rattle.speculation.specs.declared.tracks.Name.{Name}
 use Rattle.speculation.specs.declared.history.Settings.{Settings}
 use Rattle.speculation.specs.declared.history.Entry.{Entry}
 use Rattle.speculation.specs.Machine.{Machine}
 use Rattle.speculation.specs.Run.{Mark}
-use Rattle.speculation.specs.Core.{Core, Finished, opening, over, front_home, verified}
+use Rattle.speculation.specs.Core.{Core, Finished, opening, front_home, verified}
 use Rattle.speculation.specs.Due.{Due, due}
 use Rattle.speculation.specs.Effects.{effect}
 use Rattle.speculation.specs.Events.{released_core, core_run}
@@ -27,7 +27,6 @@ record Idle {S E D : Type 0} (d : Option (Due S E D)) (some : Bool) (n : Option 
   unlendable : n ≡ None
 
 module _ {S E D : Type 0} (m : Machine S E D) (b : Settings) where
-
   idle-by : (c : Core S E D) (d : Option (Due S E D)) (some : Bool) (n : Option Name) → serial_by m b c d some n ≡ None → Idle d some n
   idle-by c (Some d) some n h = absurd (cc)
   idle-by c None true n h = absurd (cc)
@@ -100,14 +99,18 @@ module _ {S E D : Type 0} (m : Machine S E D) (b : Settings) where
   unfolding serial
   finishes-later start c xs is step rest =
       let next : serial m b (suc rest.rounds) (Some c) ≡ xs ++ serial m b rest.rounds (Some step.new)
-          = ap (serial_more (λ ys. serial m b rest.rounds (core_run m b (Some c) ys))) is ∙ ap (λ o. xs ++ serial m b rest.rounds o) step.step.leads in
+      = ap (serial_more (λ ys. serial m b rest.rounds (core_run m b (Some c) ys))) is ∙ ap (λ o. xs ++ serial m b rest.rounds o) step.step.leads in
       record {
-        rounds = suc rest.rounds; last = rest.last; idle = rest.idle; sound = rest.sound; solo = rest.solo;
+        rounds = suc rest.rounds;
+        last = rest.last;
+        idle = rest.idle;
+        sound = rest.sound;
+        solo = rest.solo;
         leads = ap (core_run m b (Some c)) next ∙ core_run-append m b start xs (serial m b rest.rounds (Some step.new)) (Some c)
-          ∙ ap (λ o. core_run m b o (serial m b rest.rounds (Some step.new))) step.step.leads ∙ rest.leads }
+            ∙ ap (λ o. core_run m b o (serial m b rest.rounds (Some step.new))) step.step.leads ∙ rest.leads;
+      }
 
   module _ (start : S) (exact : Exact m start) where
-
     finishes-by : (c : Core S E D) (o : Option (List Entry)) → serial_next m b c ≡ o → Sound m b start c → Solo c
         → ((k : Core S E D) → weigh b (digits_of b k) < weigh b (digits_of b c) → Sound m b start k → Solo k → Finishes start k) → Finishes start c
     finishes-by c None is sound solo rest = finishes-now start c sound solo is
@@ -148,5 +151,11 @@ module _ {S E D : Type 0} (m : Machine S E D) (b : Settings) where
     serial-whole some =
         let ended = serial-ended some in
         record {
-          entries = serial-entries; serial = serial-is; core = serial-finishes.last; legal = serial-history;
-          finished = ended.finished; finish = ended.is; released = ended.released }
+          entries = serial-entries;
+          serial = serial-is;
+          core = serial-finishes.last;
+          legal = serial-history;
+          finished = ended.finished;
+          finish = ended.is;
+          released = ended.released;
+        }

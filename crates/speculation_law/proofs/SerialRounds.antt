@@ -1,36 +1,27 @@
 -- Each round of the serial history makes the measure smaller.
-use Rattle.std.proofs.Common.{◌≡◌, ℕ, zero, suc, ◌+◌, ◌-◌, ◌*◌, ◌<◌, ◌≤◌, Bool, true, false, not, ◌&&◌, ◌||◌, if◌then◌else◌, List, [], ◌∷◌, ◌++◌, Option, Some, None, length, is_some, nat_eq, nat_lt, nat_le, refl, sym, ap, ap₂, ◌∙◌, subst, inl, inr, append-nil, eq-eqb, ne_eqb, lt-ltb, ltb-false, leb-true, leb-false, arith}
-use Rattle.std.proofs.lemmas.Bool.{and_from, or_from}
-use Rattle.speculation.specs.declared.tracks.Kind.{Kind}
-use Rattle.speculation.specs.declared.tracks.Kind.TheVariants.{Normal, Fast, Segment}
+use Rattle.std.proofs.Common.{◌≡◌, ℕ, suc, ◌+◌, ◌-◌, ◌<◌, ◌≤◌, Bool, true, false, not, ◌&&◌, if◌then◌else◌, List, [], ◌∷◌, ◌++◌, Some, None, length, nat_lt, refl, sym, ap, ap₂, ◌∙◌, subst, arith}
+use Rattle.speculation.specs.declared.tracks.Kind.TheVariants.{Normal, Fast}
 use Rattle.speculation.specs.declared.tracks.Name.{Name}
 use Rattle.speculation.specs.declared.tracks.OpenLoan.{OpenLoan}
 use Rattle.speculation.specs.declared.history.Settings.{Settings}
-use Rattle.speculation.specs.declared.history.Entry.{Entry}
 use Rattle.speculation.specs.Machine.{Machine}
-use Rattle.speculation.specs.Run.{Mark, Piece, marks, marks_upto, fresh, go}
-use Rattle.speculation.specs.Tracks.{boundary}
-use Rattle.speculation.specs.Verdicts.{Verdict, Kept, Differs, Stopped, Late, Judged, Seen, Running, Ended, Met, judge, compared}
-use Rattle.speculation.specs.Core.{Core, Track, Part, Open, Closed, Between, Region, Finished, opening, over, name_eq, lead_name, normal_name, is_lent, is_named, at_home, lead_home, find_loan, find_normal, track_by, find_track, front, front_of, front_name, front_home, verified, track_point, at_boundary, has_stop, is_kind, held_size, most_held}
-use Rattle.speculation.specs.Due.{Judgement, Due, Finishing, Crossing, Judging, Forking, finish_by, finish_test, cross_test, seen_lead, seen, judgement, verdict_due, fork_test, choose, due}
-use Rattle.speculation.specs.Effects.{region_of, base_after_fork, between_steps, row_of, crossed_core, forked_core, kept_core, dropped_core, judged_core, effect, drop_loans}
-use Rattle.speculation.specs.Events.{run_on, slice, wanted, ready_to_go, is_ready, lendable, back_regions, back_lead, end_loan, left_over, released_regions, released_lead, released_by, released_core, core_run}
-use Rattle.speculation.specs.Law.{Exact, IsHistory}
-use Rattle.speculation.specs.Serial.{first_lendable, serial_by, serial_next, next_of, serial_more, serial, IsSerial}
-use Rattle.speculation_law.specs.Facts.{NoStop, Tail, Chain, FastTrack}
+use Rattle.speculation.specs.Run.{Mark, marks_upto, fresh, go}
+use Rattle.speculation.specs.Verdicts.{Verdict, Kept, Differs, Stopped, Late}
+use Rattle.speculation.specs.Core.{Core, Track, Region, Finished, over, name_eq, is_lent, is_named, at_home, front_of, front_name, front_home, verified, track_point, is_kind}
+use Rattle.speculation.specs.Due.{Judgement, Due, Finishing, Crossing, Judging, Forking, due}
+use Rattle.speculation.specs.Effects.{region_of, base_after_fork, crossed_core, forked_core, judged_core, effect, drop_loans}
+use Rattle.speculation.specs.Events.{slice, back_regions, back_lead, end_loan, released_regions, released_lead, released_by, released_core}
 use Rattle.speculation_law.specs.Sound.{one_if, Good}
-use Rattle.speculation_law.specs.Naming.{Bounded, Named, Sound}
+use Rattle.speculation_law.specs.Naming.{Bounded}
 use Rattle.speculation_law.proofs.Names.{FoundTrack, Original, Lead, find_track-found, name_eq-refl}
-use Rattle.speculation_law.proofs.Pieces.{marks_upto-all, marks_upto-left_over}
-use Rattle.speculation_law.proofs.Dues.{Unfinished, Below, AtBoundary, finish_by-unspent, finish_by-none, CrossingLead, due-finishing, due-crossing, due-forking, cross_test-true, fork_test-true, verdict_due-some, due-judging}
+use Rattle.speculation_law.proofs.Pieces.{marks_upto-left_over}
+use Rattle.speculation_law.proofs.Dues.{due-finishing, due-crossing, due-forking, cross_test-true, fork_test-true}
 use Rattle.speculation_law.proofs.Chains.{boundary-at}
-use Rattle.speculation_law.proofs.Judging.{tail-open, normal-pos}
+use Rattle.speculation_law.proofs.Judging.{normal-pos}
 use Rattle.speculation_law.proofs.Lending.{Lendable}
 use Rattle.speculation_law.proofs.Happens.{lent_core, back_core}
-use Rattle.speculation_law.proofs.Events.{Judges, judges-due}
-use Rattle.speculation_law.proofs.Soundness.{sound-opening, sound-on, core_run-append}
-use Rattle.speculation_law.proofs.SerialSteps.{Round, DueRound, ReleaseRound, LendRound, serial_next-round}
-use Rattle.speculation_law.proofs.Weights.{Digits, Small, weigh, digits_of, digits-small, live-falls, left-falls, room-falls, fast-falls, work-falls, shown-falls, work_of, work-back, slice-pos}
+use Rattle.speculation_law.proofs.Events.{judges-due}
+use Rattle.speculation_law.proofs.Weights.{weigh, digits_of, digits-small, live-falls, left-falls, room-falls, fast-falls, work-falls, shown-falls, work_of, work-back, slice-pos}
 use Rattle.speculation_law.proofs.Bounds.{slice-within, length-crossed, length-forked, length-released, length-back}
 
 -- a core of the serial history: nothing is lent or lost, and nobody halted it
@@ -40,7 +31,6 @@ pub record Solo {S E D : Type 0} (c : Core S E D) : Type 0 where
   pub running : c.halted ≡ false
 
 module _ {S E D : Type 0} where
-
   -- all tracks are at home
   pub solo-home : (c : Core S E D) (n : Name) → Solo c → at_home c n ≡ true
   solo-home c n h = ap₂ (λ (ls : List OpenLoan) (ns : List Name). not (is_lent n ls) && not (is_named n ns)) h.loans h.lost
@@ -49,7 +39,6 @@ module _ {S E D : Type 0} where
   solo-front c h = solo-home c (front_name c c.regions) h
 
 module _ {S E D : Type 0} (m : Machine S E D) (b : Settings) where
-
   -- Rounds keep a core so
 
   solo-judged : (c : Core S E D) (v : Judgement S D) (w : Verdict D) → Solo c → Solo (judged_core m b c v w)
@@ -74,7 +63,9 @@ module _ {S E D : Type 0} (m : Machine S E D) (b : Settings) where
   pub solo-back : (c : Core S E D) (n : Name) → Solo c → Solo (back_core m b (lent_core c 0 n) n)
   solo-back c n h = record {
     loans = ap (λ ls. end_loan n (ls ++ (record { seat = 0; name = n; dropped = None } ∷ []))) h.loans ∙ ended-one n (record { seat = 0; name = n; dropped = None }) refl;
-    lost = h.lost; running = h.running }
+    lost = h.lost;
+    running = h.running;
+  }
 
   -- Rounds make the measure smaller
 
@@ -101,7 +92,7 @@ module _ {S E D : Type 0} (m : Machine S E D) (b : Settings) where
       let more = base-judged c v v.judged.verdict in
       let unspent = j.unspent in
       left-falls b (digits_of b c) (digits_of b (effect m b c (Judging v))) (digits-small m b (effect m b c (Judging v)) bounded)
-        (one_if-same (over (effect m b c (Judging v))) (over c) (over-judged c v v.judged.verdict)) (omega arith)
+      (one_if-same (over (effect m b c (Judging v))) (over c) (over-judged c v v.judged.verdict)) (omega arith)
 
   falls-finishing : (c : Core S E D) (f : Finished E) → over c ≡ false → Bounded b (effect m b c (Finishing f)) → weigh b (digits_of b (effect m b c (Finishing f))) < weigh b (digits_of b c)
   falls-finishing c f live bounded =
@@ -144,7 +135,7 @@ module _ {S E D : Type 0} (m : Machine S E D) (b : Settings) where
   unfolding verified
   verified-released c bytes =
       empty-either (front_home (released_by true (b.budget - c.base) c bytes)) (marks_upto (b.budget - c.base) (front_of (released_regions (b.budget - c.base) c.regions) (released_lead (b.budget - c.base) c.regions c.lead)).held)
-        (held-released (b.budget - c.base) c.regions c.lead)
+      (held-released (b.budget - c.base) c.regions c.lead)
 
   work-released : (budget limit : ℕ) (rs : List (Region S)) (lead : Track S) → work_of budget (released_regions limit rs) + (budget - (released_lead limit rs lead).own) ≡ work_of budget rs + (budget - lead.own)
   work-released budget limit [] lead = refl
@@ -164,7 +155,7 @@ module _ {S E D : Type 0} (m : Machine S E D) (b : Settings) where
       let kind : one_if (is_kind (released_lead (b.budget - c.base) c.regions c.lead).kind Fast) ≡ one_if (is_kind c.lead.kind Fast) = ap (λ x. one_if (is_kind x Fast)) (kind-released (b.budget - c.base) c.regions c.lead) in
       let work = work-released b.budget (b.budget - c.base) c.regions c.lead in
       subst (λ (x : Core S E D). weigh b (digits_of b x) < weigh b (digits_of b c)) (sym is)
-        (shown-falls b (digits_of b c) (digits_of b k) (digits-small m b k (subst (λ (x : Core S E D). Bounded b x) is bounded)) (omega arith) (omega arith) (omega arith) (omega arith) (omega arith) (omega arith))
+      (shown-falls b (digits_of b c) (digits_of b k) (digits-small m b k (subst (λ (x : Core S E D). Bounded b x) is bounded)) (omega arith) (omega arith) (omega arith) (omega arith) (omega arith) (omega arith))
 
   -- Lend and Back
 

@@ -1,19 +1,19 @@
 -- What comes next in the serial history is allowed, so the serial history is legal.
-use Rattle.std.proofs.Common.{◌≡◌, ℕ, zero, suc, ◌+◌, ◌<◌, ◌≤◌, Bool, true, false, not, ◌&&◌, if◌then◌else◌, List, [], ◌∷◌, ◌++◌, Option, Some, None, length, is_none, nat_eq, nat_lt, refl, sym, ap, ap₂, ◌∙◌, subst, eq-eqb}
+use Rattle.std.proofs.Common.{◌≡◌, ℕ, zero, suc, Bool, true, false, not, ◌&&◌, if◌then◌else◌, List, [], ◌∷◌, Option, Some, None, length, is_none, nat_eq, nat_lt, refl, ap, ap₂, ◌∙◌, subst, eq-eqb}
 use Rattle.std.proofs.lemmas.Bool.{and_from}
 use Rattle.speculation.specs.declared.tracks.Name.{Name}
 use Rattle.speculation.specs.declared.tracks.OpenLoan.{OpenLoan}
 use Rattle.speculation.specs.declared.history.Settings.{Settings}
 use Rattle.speculation.specs.declared.history.Entry.{Entry}
-use Rattle.speculation.specs.declared.history.Entry.TheVariants.{Lend, Back, Gone, Fork, Cross, Keep, Discard, Release, Finish, Halt}
+use Rattle.speculation.specs.declared.history.Entry.TheVariants.{Lend, Back, Fork, Cross, Keep, Discard, Release, Finish}
 use Rattle.speculation.specs.Machine.{Machine}
-use Rattle.speculation.specs.Verdicts.{Verdict, is_kept}
-use Rattle.speculation.specs.Core.{Core, Track, Region, Finished, opening, over, name_eq, lead_name, normal_name, at_home, find_loan, find_track, verified}
+use Rattle.speculation.specs.Verdicts.{is_kept}
+use Rattle.speculation.specs.Core.{Core, Track, Region, opening, over, lead_name, normal_name, find_loan, find_track, verified}
 use Rattle.speculation.specs.Due.{Judgement, Due, Finishing, Crossing, Judging, Forking, due}
 use Rattle.speculation.specs.Effects.{effect}
-use Rattle.speculation.specs.Events.{some_if, slice, lendable, back_of, end_loan, released_core, is_row_entry, is_entry_of, due_done, event, core_run}
-use Rattle.speculation.specs.Law.{Exact, IsHistory}
-use Rattle.speculation.specs.Serial.{row_entry, entry_of, first_lendable, slice_of, serial_by, serial_next, next_of, serial_more, serial}
+use Rattle.speculation.specs.Events.{some_if, slice, lendable, back_of, released_core, is_row_entry, is_entry_of, due_done, event, core_run}
+use Rattle.speculation.specs.Law.{Exact}
+use Rattle.speculation.specs.Serial.{row_entry, entry_of, first_lendable, slice_of, serial_by, serial_next, serial_more, serial}
 use Rattle.speculation_law.specs.Naming.{Named, Sound}
 use Rattle.speculation_law.proofs.Names.{name_eq-refl, home-lent}
 use Rattle.speculation_law.proofs.FindLoan.{find_loan-new}
@@ -32,7 +32,6 @@ pub record Allowed {S E D : Type 0} (m : Machine S E D) (b : Settings) (c : Core
   pub leads : core_run m b (Some c) xs ≡ Some new
 
 module _ {S E D : Type 0} (m : Machine S E D) (b : Settings) where
-
   done-true : (c : Core S E D) (x : Entry) (d : Due S E D) (o : Option (Due S E D)) → o ≡ Some d → is_entry_of c d x ≡ true → due_done m b c x o ≡ Some (effect m b c d)
   done-true c x d o is entry = ap (due_done m b c x) is ∙ some_if-true (is_entry_of c d x) (effect m b c d) entry
 
@@ -63,7 +62,7 @@ module _ {S E D : Type 0} (m : Machine S E D) (b : Settings) where
   event-release : (c : Core S E D) → nat_lt 0 (length (verified b c)) ≡ true → event m b c (Release (length (verified b c))) ≡ Some (released_core b c)
   unfolding event
   event-release c h = some_if-true (nat_lt 0 (length (verified b c)) && nat_eq (length (verified b c)) (length (verified b c))) (released_core b c)
-    (and_from (nat_lt 0 (length (verified b c))) (nat_eq (length (verified b c)) (length (verified b c))) h (eq-eqb (length (verified b c)) (length (verified b c)) refl))
+      (and_from (nat_lt 0 (length (verified b c))) (nat_eq (length (verified b c)) (length (verified b c))) h (eq-eqb (length (verified b c)) (length (verified b c)) refl))
 
   pub event-lend : (c : Core S E D) (seat : ℕ) (n : Name) → lendable m b c n ≡ true → event m b c (Lend seat n) ≡ Some (lent_core c seat n)
   unfolding event
@@ -77,7 +76,7 @@ module _ {S E D : Type 0} (m : Machine S E D) (b : Settings) where
       let lent : find_loan n (lent_core c seat n).loans ≡ Some loan = find_loan-new c.loans loan (find_loan-home c n named (t, can.found) (home-lent c n can.home)) in
       ap₂ (λ (l : Option OpenLoan) (o : Option (Track S)). back_of m b (lent_core c seat n) n (slice m b t) l o) lent can.found
       ∙ some_if-true (is_none {T = ℕ} None && (not (over c) && nat_eq (slice m b t) (slice m b t))) (back_core m b (lent_core c seat n) n)
-        (and_from (not (over c)) (nat_eq (slice m b t) (slice m b t)) (ap not can.live) (eq-eqb (slice m b t) (slice m b t) refl))
+      (and_from (not (over c)) (nat_eq (slice m b t) (slice m b t)) (ap not can.live) (eq-eqb (slice m b t) (slice m b t) refl))
 
   first-by : (c : Core S E D) (n k : Name) (rest : Option Name) (t : Bool) → lendable m b c k ≡ t → (if t then Some k else rest) ≡ Some n → (rest ≡ Some n → lendable m b c n ≡ true) → lendable m b c n ≡ true
   first-by c n k rest true is h f = (let same : k ≡ n = cc in subst (λ (x : Name). lendable m b c x ≡ true) same is)
@@ -98,7 +97,7 @@ module _ {S E D : Type 0} (m : Machine S E D) (b : Settings) where
   lend-and-back c n named can lends =
       let count : slice_of m b (find_track c n) ≡ slice m b can.track = ap (slice_of m b) can.is.found in
       LendRound n can.track can.is (ap (λ k. core_run m b (Some c) (Lend 0 n ∷ (Back n k ∷ []))) count
-        ∙ run-two c (lent_core c 0 n) (back_core m b (lent_core c 0 n) n) (Lend 0 n) (Back n (slice m b can.track)) (event-lend c 0 n lends) (event-back c 0 n can.track named can.is))
+      ∙ run-two c (lent_core c 0 n) (back_core m b (lent_core c 0 n) n) (Lend 0 n) (Back n (slice m b can.track)) (event-lend c 0 n lends) (event-back c 0 n can.track named can.is))
 
   round-by : (c : Core S E D) (xs : List Entry) (d : Option (Due S E D)) (some : Bool) (o : Option Name) → Named c → due m b c ≡ d → nat_lt 0 (length (verified b c)) ≡ some → first_lendable m b c c.regions ≡ o
       → serial_by m b c d some o ≡ Some xs → Round c xs
@@ -133,7 +132,6 @@ module _ {S E D : Type 0} (m : Machine S E D) (b : Settings) where
   run-none c = refl
 
   module _ (start : S) (exact : Exact m start) where
-
     more-allowed : (k : ℕ) (c : Core S E D) (o : Option (List Entry)) → serial_next m b c ≡ o → Sound m b start c → ((d : Core S E D) → Sound m b start d → Allowed m b d (serial m b k (Some d)))
         → Allowed m b c (serial_more (λ xs. serial m b k (core_run m b (Some c) xs)) o)
     more-allowed k c None is sound rest = record { new = c; leads = run-none c }
@@ -144,7 +142,8 @@ module _ {S E D : Type 0} (m : Machine S E D) (b : Settings) where
         record {
           new = more.new;
           leads = core_run-append m b start xs (serial m b k (core_run m b (Some c) xs)) (Some c)
-            ∙ ap₂ (λ (o : Option (Core S E D)) (ys : List Entry). core_run m b o ys) here.leads same ∙ more.leads }
+              ∙ ap₂ (λ (o : Option (Core S E D)) (ys : List Entry). core_run m b o ys) here.leads same ∙ more.leads;
+        }
 
     -- so many rounds from a sound core on
     pub serial-allowed : (k : ℕ) (c : Core S E D) → Sound m b start c → Allowed m b c (serial m b k (Some c))

@@ -1,5 +1,5 @@
 -- All that holds of the core of every legal history.
-use Rattle.std.proofs.Common.{◌≡◌, ℕ, List, [], ◌∷◌, ◌++◌, Option, Some, None, refl, sym, ap, ◌∙◌, subst}
+use Rattle.std.proofs.Common.{◌≡◌, List, [], ◌∷◌, ◌++◌, Option, Some, None, refl, sym, subst}
 use Rattle.speculation.specs.declared.history.Settings.{Settings}
 use Rattle.speculation.specs.declared.history.Entry.{Entry}
 use Rattle.speculation.specs.Machine.{Machine}
@@ -14,7 +14,6 @@ use Rattle.speculation_law.proofs.Naming.{named-happens, named-opening}
 use Rattle.speculation_law.proofs.Bounds.{bounded-happens, bounded-opening}
 
 module _ {S E D : Type 0} (m : Machine S E D) (b : Settings) (start : S) where
-
   pub sound-opening : Sound m b start (opening start)
   sound-opening = record { good = good-opening m b start; named = named-opening m b start; bounded = bounded-opening m b start }
 
@@ -22,7 +21,8 @@ module _ {S E D : Type 0} (m : Machine S E D) (b : Settings) (start : S) where
   sound-event c new x exact h is = (let happens = event-happens m b c new x is in record {
     good = good-event m b start c new x exact h.good is;
     named = named-happens m b c new x h.named happens;
-    bounded = bounded-happens m b start c new x h.good h.bounded happens })
+    bounded = bounded-happens m b start c new x h.good h.bounded happens;
+  })
 
   pub sound-run : (xs : List Entry) (o : Option (Core S E D)) (new : Core S E D) → Exact m start → ((c : Core S E D) → o ≡ Some c → Sound m b start c) → core_run m b o xs ≡ Some new → Sound m b start new
   unfolding core_run

@@ -1,8 +1,7 @@
 -- The toy machine misses no difference.
-use Rattle.std.proofs.Common.{◌≡◌, ℕ, Bool, true, false, not, if◌then◌else◌, List, Option, Some, None, nat_eq, refl, sym, ap, ◌∙◌, subst, eqb-true}
+use Rattle.std.proofs.Common.{◌≡◌, Bool, true, false, not, if◌then◌else◌, List, Some, None, nat_eq, refl, eqb-true}
 use Rattle.speculation.specs.declared.toy.Instruction.{Instruction}
 use Rattle.speculation.specs.declared.toy.State.{State}
-use Rattle.speculation.specs.declared.toy.Difference.{Difference}
 use Rattle.speculation.specs.declared.toy.Difference.TheVariants.{Place, Answer, Total}
 use Rattle.speculation.specs.Law.{Exact}
 use Rattle.speculation.specs.Run.{fresh, go}

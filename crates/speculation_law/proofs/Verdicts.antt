@@ -1,19 +1,18 @@
 -- The judge's answer is the verdict wherever what it sees is true.
-use Rattle.std.proofs.Common.{◌≡◌, ℕ, zero, suc, ◌+◌, ◌-◌, ◌<◌, ◌≤◌, Bool, true, false, if◌then◌else◌, Option, Some, None, nat_lt, nat_le, refl, sym, ap, ap₂, ◌∙◌, subst, inl, inr, lt-ltb, le-ltb, le-leb, ltb-false, arith}
+use Rattle.std.proofs.Common.{◌≡◌, ℕ, zero, suc, ◌+◌, ◌-◌, ◌<◌, ◌≤◌, Bool, true, false, if◌then◌else◌, Option, Some, None, nat_lt, nat_le, refl, sym, ap, ap₂, ◌∙◌, inl, inr, lt-ltb, le-ltb, le-leb, ltb-false, arith}
 use Rattle.std.proofs.lemmas.Bool.{cases_lt, lt-leb}
 use Rattle.speculation.specs.declared.tracks.Kind.{Kind}
-use Rattle.speculation.specs.declared.tracks.Kind.TheVariants.{Normal, Fast, Segment}
+use Rattle.speculation.specs.declared.tracks.Kind.TheVariants.{Normal, Fast}
 use Rattle.speculation.specs.Machine.{Machine}
 use Rattle.speculation.specs.Run.{Point, fresh, go, tick, taken}
 use Rattle.speculation.specs.Tracks.{point, meets, boundary, first_from, fast_count}
-use Rattle.speculation.specs.Verdicts.{Verdict, Kept, Stopped, Late, Judged, compared, unclosed, verdict_of, verdict, Seen, Running, Ended, Met, judge}
-use Rattle.speculation.proofs.Runs.{go-stays, taken-stays, going-below}
-use Rattle.speculation_law.specs.Facts.{NoStop, Unstopped, Closes}
+use Rattle.speculation.specs.Verdicts.{Stopped, Late, Judged, compared, unclosed, verdict_of, verdict, Seen, Running, Ended, Met, judge}
+use Rattle.speculation.proofs.Runs.{go-stays, taken-stays}
+use Rattle.speculation_law.specs.Facts.{Unstopped, Closes}
 use Rattle.speculation_law.specs.Sees.{Sees}
 use Rattle.speculation_law.proofs.Least.{first-some, first-none}
 
 module _ {S E D : Type 0} (m : Machine S E D) where
-
   meets-ended : (kind : Kind) (own : ℕ) (s : S) (o : Option E) (e : E) → o ≡ Some e → meets m kind own s o ≡ false
   meets-ended kind own s (Some x) e h = refl
   meets-ended kind own s None e h = absurd (cc)
@@ -66,8 +65,9 @@ module _ {S E D : Type 0} (m : Machine S E D) where
 
   inside-ended : (s : S) (k : ℕ) (e : E) → Unstopped m Fast s k → (point m Fast s k).end ≡ Some e → (i : ℕ) → boundary m Fast s i ≡ false
   inside-ended s k e least h i = elim (cases_lt i k) [
-      inl less ↦ (least.at i less).inside
-    | inr more ↦ boundary-ended Fast s i e (ap (λ (q : Point S E). q.end) (point-stays s k i e more h) ∙ h) ]
+    | inl less ↦ (least.at i less).inside
+    | inr more ↦ boundary-ended Fast s i e (ap (λ (q : Point S E). q.end) (point-stays s k i e more h) ∙ h)
+  ]
 
   -- the verdict is Late where the fast version met nothing within the original's count
   pub verdict-late : (s : S) (n k : ℕ) → n < k → Unstopped m Fast s k → verdict m s n ≡ record { verdict = Late; fast = n }
@@ -93,22 +93,24 @@ module _ {S E D : Type 0} (m : Machine S E D) where
 
   judged-ended : (s : S) (n k : ℕ) (e : E) (j : Judged D) → Unstopped m Fast s k → (point m Fast s k).end ≡ Some e → judge n (Ended k) ≡ Some j → j ≡ verdict m s n
   judged-ended s n k e j least h answer = elim (cases_lt n k) [
-      inl less ↦ (let test : nat_le k n ≡ false = lt-leb k n less in
+    | inl less ↦ (let test : nat_le k n ≡ false = lt-leb k n less in
         let late : judge {D = D} n (Ended k) ≡ Some (record { verdict = Late; fast = n }) = ap (λ t. if t then Some (record { verdict = Stopped; fast = k }) else Some (record { verdict = Late; fast = n })) test in
         let is : verdict m s n ≡ record { verdict = Late; fast = n } = verdict-late s n k less least in cc)
     | inr more ↦ (let test : nat_le k n ≡ true = le-leb k n more in
         let stopped : judge {D = D} n (Ended k) ≡ Some (record { verdict = Stopped; fast = k }) = ap (λ t. if t then Some (record { verdict = Stopped; fast = k }) else Some (record { verdict = Late; fast = n })) test in
-        let is : verdict m s n ≡ record { verdict = Stopped; fast = k } = verdict-stopped s n k e least h more in cc) ]
+        let is : verdict m s n ≡ record { verdict = Stopped; fast = k } = verdict-stopped s n k e least h more in cc)
+  ]
 
   judged-met : (s : S) (n k : ℕ) (d : Option D) (j : Judged D) → Closes m s k → d ≡ m.difference (point m Normal s n).state (point m Fast s k).state
       → judge n (Met k d) ≡ Some j → j ≡ verdict m s n
   judged-met s n k d j closes same answer = elim (cases_lt n k) [
-      inl less ↦ (let test : nat_lt n k ≡ true = lt-ltb n k less in
+    | inl less ↦ (let test : nat_lt n k ≡ true = lt-ltb n k less in
         let late : judge n (Met k d) ≡ Some (record { verdict = Late; fast = n }) = ap (λ t. if t then Some (record { verdict = Late; fast = n }) else Some (compared k d)) test in
         let is : verdict m s n ≡ record { verdict = Late; fast = n } = verdict-late s n k less closes.least in cc)
     | inr more ↦ (let test : nat_lt n k ≡ false = le-ltb n k more in
         let met : judge n (Met k d) ≡ Some (compared k d) = ap (λ t. if t then Some (record { verdict = Late; fast = n }) else Some (compared k d)) test in
-        let is : verdict m s n ≡ compared k d = verdict-met s n k closes more ∙ ap (compared k) (sym same) in cc) ]
+        let is : verdict m s n ≡ compared k d = verdict-met s n k closes more ∙ ap (compared k) (sym same) in cc)
+  ]
 
   -- the judge's answer is the verdict
   pub judge-verdict : (s : S) (n : ℕ) (x : Seen D) (j : Judged D) → Sees m s n x → judge n x ≡ Some j → j ≡ verdict m s n

@@ -1,15 +1,13 @@
 -- The ledger's walk over plain instructions, over a region, and to its stop.
-use Rattle.std.proofs.Common.{◌≡◌, ℕ, zero, suc, ◌+◌, ◌-◌, ◌<◌, ◌≤◌, Bool, true, false, List, [], ◌∷◌, Option, Some, None, refl, sym, ap, ap₂, ◌∙◌, subst, inl, inr, add-zero, add-suc, arith}
-use Rattle.std.proofs.lemmas.Bool.{cases_lt}
-use Rattle.speculation.specs.declared.tracks.Kind.{Kind}
-use Rattle.speculation.specs.declared.tracks.Kind.TheVariants.{Normal, Fast, Segment}
+use Rattle.std.proofs.Common.{◌≡◌, ℕ, zero, suc, ◌+◌, ◌-◌, ◌<◌, ◌≤◌, Bool, true, false, List, [], ◌∷◌, Option, Some, None, refl, sym, ap, ap₂, ◌∙◌, add-zero, arith}
+use Rattle.speculation.specs.declared.tracks.Kind.TheVariants.{Normal, Segment}
 use Rattle.speculation.specs.Machine.{Machine}
 use Rattle.speculation.specs.Run.{Point, fresh, go}
-use Rattle.speculation.specs.Tracks.{point, meets, boundary, first_from, original}
+use Rattle.speculation.specs.Tracks.{meets, boundary, original}
 use Rattle.speculation.specs.Ledger.{Row, row_at, round, walk, ledger_from}
 use Rattle.speculation.proofs.Runs.{go-add, going-below}
 use Rattle.speculation_law.specs.Facts.{NoStop, Unstopped}
-use Rattle.speculation_law.proofs.Least.{IsLeast, first-some, first-none, first-least}
+use Rattle.speculation_law.proofs.Least.{first-some, first-none, first-least}
 use Rattle.speculation_law.proofs.Verdicts.{boundary-going}
 
 round-plain : {E D : Type 0} (x : Option E) (f : Bool) (o : Option ℕ) (g : ℕ → List (Row D)) (p : List (Row D)) → x ≡ None → f ≡ false → round x f o g p ≡ p
@@ -40,7 +38,6 @@ round-same None true None g h p q same each = refl
 round-same None true (Some n) g h p q same each = each n refl
 
 module _ {S E D : Type 0} (m : Machine S E D) where
-
   -- as many rounds as instructions are left are enough
   walk-more : (r q left : ℕ) (s : S) (number at : ℕ) → left ≤ r → left ≤ q → walk m r left s number at ≡ walk m q left s number at
   unfolding walk original
@@ -52,13 +49,13 @@ module _ {S E D : Type 0} (m : Machine S E D) where
   walk-more (suc r) zero (suc l) s number at h k = absurd (omega arith)
   walk-more (suc r) (suc q) (suc l) s number at h k =
       round-same (go m (fresh s) 1).end (m.at_fast s) (original m s (suc l))
-        (λ n. row_at m s number at n ∷ walk m r (suc l - n) (go m (fresh s) n).state (suc number) (at + n))
-        (λ n. row_at m s number at n ∷ walk m q (suc l - n) (go m (fresh s) n).state (suc number) (at + n))
-        (walk m r l (go m (fresh s) 1).state number (suc at)) (walk m q l (go m (fresh s) 1).state number (suc at))
-        (walk-more r q l (go m (fresh s) 1).state number (suc at) (omega arith) (omega arith))
-        (λ n is. let least = first-least (boundary m Normal s) 1 (suc l) n is in
-          ap (λ rows. row_at m s number at n ∷ rows)
-            (walk-more r q (suc l - n) (go m (fresh s) n).state (suc number) (at + n) (omega (arith, least.low)) (omega (arith, least.low))))
+      (λ n. row_at m s number at n ∷ walk m r (suc l - n) (go m (fresh s) n).state (suc number) (at + n))
+      (λ n. row_at m s number at n ∷ walk m q (suc l - n) (go m (fresh s) n).state (suc number) (at + n))
+      (walk m r l (go m (fresh s) 1).state number (suc at)) (walk m q l (go m (fresh s) 1).state number (suc at))
+      (walk-more r q l (go m (fresh s) 1).state number (suc at) (omega arith) (omega arith))
+      (λ n is. let least = first-least (boundary m Normal s) 1 (suc l) n is in
+      ap (λ rows. row_at m s number at n ∷ rows)
+      (walk-more r q (suc l - n) (go m (fresh s) n).state (suc number) (at + n) (omega (arith, least.low)) (omega (arith, least.low))))
 
   -- nothing is left
   pub ledger_from-zero : (s : S) (number at : ℕ) → ledger_from m 0 s number at ≡ []
@@ -73,8 +70,8 @@ module _ {S E D : Type 0} (m : Machine S E D) where
   ledger_from-plain (suc l) s number at going plain =
       let less : l ≡ suc l - 1 = omega arith in
       round-plain (go m (fresh s) 1).end (m.at_fast s) (original m s (suc l))
-        (λ n. row_at m s number at n ∷ walk m l (suc l - n) (go m (fresh s) n).state (suc number) (at + n))
-        (walk m l l (go m (fresh s) 1).state number (suc at)) going plain
+      (λ n. row_at m s number at n ∷ walk m l (suc l - n) (go m (fresh s) n).state (suc number) (at + n))
+      (walk m l l (go m (fresh s) 1).state number (suc at)) going plain
       ∙ ap (λ k. walk m k k (go m (fresh s) 1).state number (suc at)) less
 
   -- at an instruction that ends the program
@@ -83,8 +80,8 @@ module _ {S E D : Type 0} (m : Machine S E D) where
   ledger_from-ends zero s number at e h = refl
   ledger_from-ends (suc l) s number at e h =
       round-ends (go m (fresh s) 1).end (m.at_fast s) (original m s (suc l))
-        (λ n. row_at m s number at n ∷ walk m l (suc l - n) (go m (fresh s) n).state (suc number) (at + n))
-        (walk m l l (go m (fresh s) 1).state number (suc at)) e h
+      (λ n. row_at m s number at n ∷ walk m l (suc l - n) (go m (fresh s) n).state (suc number) (at + n))
+      (walk m l l (go m (fresh s) 1).state number (suc at)) e h
 
   -- over a region: n is the original's count
   pub ledger_from-region : (left : ℕ) (s : S) (number at n : ℕ) → m.at_fast s ≡ true → 0 < n → n ≤ left → Unstopped m Normal s n → boundary m Normal s n ≡ true
@@ -95,8 +92,8 @@ module _ {S E D : Type 0} (m : Machine S E D) where
       let going : (go m (fresh s) 1).end ≡ None = going-below m (fresh s) 1 n (omega arith) (boundary-going m Normal s n here) in
       let count : original m s (suc l) ≡ Some n = first-some (boundary m Normal s) 1 (suc l) n (omega arith) (omega arith) here (λ i low high. (least.at i high).inside) in
       round-region (go m (fresh s) 1).end (m.at_fast s) (original m s (suc l))
-        (λ n. row_at m s number at n ∷ walk m l (suc l - n) (go m (fresh s) n).state (suc number) (at + n))
-        (walk m l l (go m (fresh s) 1).state number (suc at)) n going call count
+      (λ n. row_at m s number at n ∷ walk m l (suc l - n) (go m (fresh s) n).state (suc number) (at + n))
+      (walk m l l (go m (fresh s) 1).state number (suc at)) n going call count
       ∙ ap (λ rows. row_at m s number at n ∷ rows) (walk-more l (suc l - n) (suc l - n) (go m (fresh s) n).state (suc number) (at + n) (omega arith) (omega arith))
 
   -- at a region that doesn't close within what is left
@@ -106,9 +103,9 @@ module _ {S E D : Type 0} (m : Machine S E D) where
   ledger_from-unclosed zero s number at call never = refl
   ledger_from-unclosed (suc l) s number at call never =
       round-unclosed (go m (fresh s) 1).end (m.at_fast s) (original m s (suc l))
-        (λ n. row_at m s number at n ∷ walk m l (suc l - n) (go m (fresh s) n).state (suc number) (at + n))
-        (walk m l l (go m (fresh s) 1).state number (suc at)) call
-        (first-none (boundary m Normal s) 1 (suc l) (λ i low high. never i (omega arith) (omega arith)))
+      (λ n. row_at m s number at n ∷ walk m l (suc l - n) (go m (fresh s) n).state (suc number) (at + n))
+      (walk m l l (go m (fresh s) 1).state number (suc at)) call
+      (first-none (boundary m Normal s) 1 (suc l) (λ i low high. never i (omega arith) (omega arith)))
 
   fresh-by : (p : Point S E) (o : Option E) → p.end ≡ o → o ≡ None → p ≡ fresh p.state
   fresh-by p o is none = ap (λ (o : Option E). record { state = p.state; end = o }) (is ∙ none)

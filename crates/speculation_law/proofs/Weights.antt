@@ -1,14 +1,14 @@
 -- The measure of the serial history: each round makes one of these numbers smaller and no earlier one greater. In order they
 -- are: whether the core isn't over; budget less base; how many more regions may open; whether the lead is fast; the tracks'
 -- instructions that are left; and whether bytes are verified. Joined as the digits of one number.
-use Rattle.std.proofs.Common.{◌≡◌, ℕ, zero, suc, ◌+◌, ◌-◌, ◌*◌, ◌<◌, ◌≤◌, Bool, true, false, not, ◌&&◌, ◌||◌, if◌then◌else◌, List, [], ◌∷◌, ◌++◌, Option, Some, None, length, nat_eq, nat_lt, nat_le, refl, sym, ap, ap₂, ◌∙◌, subst, inl, inr, suc-mul, mul-le-mul_right, add-zero, append-nil, ltb-true, unwrap_or, arith}
+use Rattle.std.proofs.Common.{◌≡◌, ℕ, zero, suc, ◌+◌, ◌-◌, ◌*◌, ◌<◌, ◌≤◌, Bool, true, false, not, ◌||◌, if◌then◌else◌, List, [], ◌∷◌, ◌++◌, Some, length, nat_eq, nat_lt, nat_le, refl, sym, ap, ◌∙◌, subst, suc-mul, mul-le-mul_right, add-zero, append-nil, ltb-true, unwrap_or, arith}
 use Rattle.std.proofs.lemmas.Bool.{lt-leb, or_from}
 use Rattle.speculation.specs.declared.tracks.Kind.{Kind}
 use Rattle.speculation.specs.declared.tracks.Kind.TheVariants.{Normal, Fast, Segment}
 use Rattle.speculation.specs.declared.history.Settings.{Settings}
 use Rattle.speculation.specs.Machine.{Machine}
 use Rattle.speculation.specs.Run.{Piece, pieces}
-use Rattle.speculation.specs.Tracks.{point, first_from}
+use Rattle.speculation.specs.Tracks.{first_from}
 use Rattle.speculation.specs.Core.{Core, Track, Region, over, find_normal, is_kind, has_stop, held_size, most_held, most_slice, verified}
 use Rattle.speculation.specs.Events.{new_pieces, run_on, slice, back_normals}
 use Rattle.speculation_law.specs.Sound.{one_if}
@@ -52,7 +52,6 @@ pub weigh : Settings → Digits → ℕ
 weigh b d = (((three b d) * 2 + d.fast) * suc (most_work b) + d.work) * 2 + d.shown
 
 module _ (b : Settings) (d e : Digits) (small : Small b e) where
-
   rest-falls : three b e < three b d → weigh b e < weigh b d
   unfolding weigh
   rest-falls h =
@@ -63,17 +62,17 @@ module _ (b : Settings) (d e : Digits) (small : Small b e) where
   pub live-falls : e.live < d.live → weigh b e < weigh b d
   live-falls h =
       rest-falls (digit-less (d.live * suc b.budget + d.left) (e.live * suc b.budget + e.left) (suc b.tracks) d.room e.room
-        (digit-less d.live e.live (suc b.budget) d.left e.left h small.left) small.room)
+      (digit-less d.live e.live (suc b.budget) d.left e.left h small.left) small.room)
 
   pub left-falls : e.live ≤ d.live → e.left < d.left → weigh b e < weigh b d
   left-falls h k =
       rest-falls (digit-less (d.live * suc b.budget + d.left) (e.live * suc b.budget + e.left) (suc b.tracks) d.room e.room
-        (digit-next d.live e.live (suc b.budget) d.left e.left h k) small.room)
+      (digit-next d.live e.live (suc b.budget) d.left e.left h k) small.room)
 
   pub room-falls : e.live ≤ d.live → e.left ≤ d.left → e.room < d.room → weigh b e < weigh b d
   room-falls h k l =
       rest-falls (digit-next (d.live * suc b.budget + d.left) (e.live * suc b.budget + e.left) (suc b.tracks) d.room e.room
-        (digit-le d.live e.live (suc b.budget) d.left e.left h k) l)
+      (digit-le d.live e.live (suc b.budget) d.left e.left h k) l)
 
   three-stays : e.live ≤ d.live → e.left ≤ d.left → e.room ≤ d.room → three b e ≤ three b d
   three-stays h k l =
@@ -126,7 +125,6 @@ work_of-le budget [] = omega arith
 work_of-le budget (r ∷ rs) = (let rest = work_of-le budget rs in let is = suc-mul (length rs) budget in omega arith)
 
 module _ {S E D : Type 0} (m : Machine S E D) (b : Settings) where
-
   pub digits-small : (c : Core S E D) → Bounded b c → Small b (digits_of b c)
   unfolding most_work
   digits-small c h =

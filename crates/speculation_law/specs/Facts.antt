@@ -1,9 +1,9 @@
 -- What holds of the tracks and regions in the core of every legal history.
-use Rattle.std.specs.Prelude.{◌≡◌, ℕ, zero, suc, ◌+◌, ◌-◌, ◌<◌, ◌≤◌, min, Bool, true, false, List, [], ◌∷◌, ◌++◌, Option, Some, None, length}
+use Rattle.std.specs.Prelude.{◌≡◌, ℕ, ◌<◌, true, false, List, [], ◌∷◌, Option, Some, None}
 use Rattle.speculation.specs.declared.tracks.Kind.{Kind}
 use Rattle.speculation.specs.declared.tracks.Kind.TheVariants.{Normal, Fast, Segment}
 use Rattle.speculation.specs.Machine.{Machine}
-use Rattle.speculation.specs.Run.{Piece, fresh, go, pieces}
+use Rattle.speculation.specs.Run.{fresh, go, pieces}
 use Rattle.speculation.specs.Tracks.{point, boundary}
 use Rattle.speculation.specs.Core.{Track, Part, Open, Closed, Between, Region}
 
@@ -79,7 +79,8 @@ Tail m s part segment (r ∷ rs) lead = record {
   call : m.at_fast r.start ≡ true;
   normal : NormalTrack m r.start r.normal;
   whole : Whole m r.start r.normal;
-  tail : Tail m r.start r.part r.segment rs lead }
+  tail : Tail m r.start r.part r.segment rs lead;
+}
 
 -- the regions and the lead from the verified state s on
 abbrev pub Chain : {S E D : Type 0} → Machine S E D → S → List (Region S) → Track S → Type 0
@@ -88,4 +89,5 @@ Chain m s (r ∷ rs) lead = record {
   start : r.start ≡ s;
   call : m.at_fast s ≡ true;
   normal : NormalTrack m s r.normal;
-  tail : Tail m s r.part r.segment rs lead }
+  tail : Tail m s r.part r.segment rs lead;
+}

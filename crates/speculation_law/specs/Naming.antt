@@ -1,10 +1,10 @@
 -- The names and the bounds of the core of every legal history.
-use Rattle.std.specs.Prelude.{◌≡◌, ℕ, suc, ◌+◌, ◌*◌, ◌<◌, ◌≤◌, List, [], ◌∷◌, Option, Some, None, length}
+use Rattle.std.specs.Prelude.{◌≡◌, ℕ, ◌+◌, ◌*◌, ◌<◌, ◌≤◌, List, [], ◌∷◌, Some, None, length}
 use Rattle.speculation.specs.declared.tracks.Name.{Name}
 use Rattle.speculation.specs.declared.tracks.OpenLoan.{OpenLoan}
 use Rattle.speculation.specs.declared.history.Settings.{Settings}
 use Rattle.speculation.specs.Machine.{Machine}
-use Rattle.speculation.specs.Core.{Core, Track, Part, Open, Closed, Region, Finished, find_loan, find_track}
+use Rattle.speculation.specs.Core.{Core, Track, Part, Open, Closed, Region, find_loan, find_track}
 use Rattle.speculation.specs.Effects.{between_steps}
 use Rattle.speculation_law.specs.Sound.{Good}
 
@@ -42,7 +42,8 @@ RegionsWithin budget (r ∷ rs) = record {
   normal : r.normal.own ≤ budget;
   part : PartWithin budget r.part;
   segment : between_steps r.segment ≤ budget;
-  rest : RegionsWithin budget rs }
+  rest : RegionsWithin budget rs;
+}
 
 -- what bounds the numbers of the core
 pub record Bounded {S E D : Type 0} (b : Settings) (c : Core S E D) : Type 0 where

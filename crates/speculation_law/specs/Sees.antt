@@ -1,5 +1,5 @@
 -- What the judge sees of a fast version is true of it.
-use Rattle.std.specs.Prelude.{◌≡◌, ℕ, suc, Option, Some}
+use Rattle.std.specs.Prelude.{◌≡◌, ℕ, suc, Some}
 use Rattle.speculation.specs.declared.tracks.Kind.TheVariants.{Normal, Fast}
 use Rattle.speculation.specs.Machine.{Machine}
 use Rattle.speculation.specs.Tracks.{point}

@@ -1,5 +1,5 @@
 -- What the serial history comes to.
-use Rattle.std.specs.Prelude.{◌≡◌, [], List, Option, Some}
+use Rattle.std.specs.Prelude.{◌≡◌, [], List, Some}
 use Rattle.speculation.specs.declared.history.Settings.{Settings}
 use Rattle.speculation.specs.declared.history.Entry.{Entry}
 use Rattle.speculation.specs.Machine.{Machine}

@@ -31,61 +31,52 @@ pub fn law_of_histories()
         IsHistory (toy program) b start entries c → IsPartial (toy program) b start c }
     ensures complete { (program : List Instruction) (b : Settings) (start : State) (entries : List Entry) (c : Core State End Difference) (f : Finished End) →
         IsHistory (toy program) b start entries c → c.finish ≡ Some f → IsComplete (toy program) b start c f }
-{
-}
+{}
 
 /// The facts of the core of every legal history: where its tracks stand, their names, and the bounds of its numbers.
 pub fn histories_are_sound()
     ensures { (program : List Instruction) (b : Settings) (start : State) (entries : List Entry) (c : Core State End Difference) →
         IsHistory (toy program) b start entries c → Sound (toy program) b start c }
-{
-}
+{}
 
 /// What begins a legal history is legal.
 pub fn histories_begin_with_histories()
     ensures { (program : List Instruction) (b : Settings) (start : State) (entries rest : List Entry) (c : Core State End Difference) →
         IsHistory (toy program) b start (entries ++ rest) c → (d : Core State End Difference) × IsHistory (toy program) b start entries d }
-{
-}
+{}
 
 /// The judge's answer is the verdict, wherever what it sees of the fast version is true.
 pub fn judge_gives_the_verdict()
     ensures { (program : List Instruction) (s : State) (n : ℕ) (seen : Seen Difference) (j : Judged Difference) →
         Sees (toy program) s n seen → judge n seen ≡ Some j → j ≡ verdict (toy program) s n }
-{
-}
+{}
 
 /// The path count is what the rows' savings leave of the instructions of the program alone.
 pub fn path_count_is_within()
     ensures { (program : List Instruction) (start : State) (budget : ℕ) (rows : List (Row Difference)) →
         IsPrefixOf rows (ledger (toy program) start budget) → Totalled (alone (toy program) start budget).count rows }
-{
-}
+{}
 
 /// A loan stays while only others act, and its track with it, unless the first discard that follows drops it.
 pub fn loans_stay()
     ensures { (program : List Instruction) (b : Settings) (start : State) (before rest : List Entry) (c d : Core State End Difference) (n : Name) (l : OpenLoan) →
         IsHistory (toy program) b start before c → core_run (toy program) b (Some c) rest ≡ Some d →
         find_loan n c.loans ≡ Some l → IsForeign l.seat before rest → TrackStays n l rest c d }
-{
-}
+{}
 
 /// Only seat 0 releases.
 pub fn others_release_nothing()
     ensures { (program : List Instruction) (b : Settings) (before rest : List Entry) (c d : Core State End Difference) →
         core_run (toy program) b (Some c) rest ≡ Some d → IsForeign 0 before rest → d.released ≡ c.released }
-{
-}
+{}
 
 /// What comes next in the serial history is allowed after every legal history.
 pub fn serial_steps_are_allowed()
     ensures { (program : List Instruction) (b : Settings) (start : State) (entries xs : List Entry) (c : Core State End Difference) →
         IsHistory (toy program) b start entries c → serial_next (toy program) b c ≡ Some xs → IsAllowed (toy program) b c xs }
-{
-}
+{}
 
 /// The serial history ends, where at least one region may be open, and then it has a finish.
 pub fn serial_history_ends()
     ensures { (program : List Instruction) (b : Settings) (start : State) → 0 < b.tracks → SerialHistory (toy program) b start }
-{
-}
+{}
