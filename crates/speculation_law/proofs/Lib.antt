@@ -23,9 +23,11 @@ pub mod Bounds
 pub mod Soundness
 pub mod Totals
 pub mod SerialSteps
+pub mod SerialSoFar
 pub mod Fates
 pub mod Weights
 pub mod SerialRounds
 pub mod Progress
 pub mod SerialEnds
 pub mod Prefixes
+pub mod TrialLoops

@@ -6,3 +6,4 @@ pub mod Totals
 pub mod Fates
 pub mod Examples
 pub mod Serial
+pub mod Trial

@@ -1,5 +1,5 @@
 //! The laws of histories at the toy machine, each the contract of a function that does nothing.
-ghost use Rattle.std.specs.Prelude.{◌≡◌, ◌<◌, ℕ, List, ◌++◌, Some};
+ghost use Rattle.std.specs.Prelude.{◌≡◌, ◌<◌, ℕ, List, ◌++◌, Some, None};
 ghost use Rattle.speculation.specs.declared.tracks.Name.{Name};
 ghost use Rattle.speculation.specs.declared.tracks.OpenLoan.{OpenLoan};
 ghost use Rattle.speculation.specs.declared.history.Settings.{Settings};
@@ -14,14 +14,14 @@ ghost use Rattle.speculation.specs.Ledger.{Row, ledger};
 ghost use Rattle.speculation.specs.Core.{Core, Finished, find_loan};
 ghost use Rattle.speculation.specs.Events.{core_run};
 ghost use Rattle.speculation.specs.Law.{IsHistory, IsPartial, IsComplete};
-ghost use Rattle.speculation.specs.Serial.{serial_next};
+ghost use Rattle.speculation.specs.Serial.{serial_next, IsSerial};
 ghost use Rattle.speculation.specs.Loans.{IsForeign};
 ghost use Rattle.speculation.specs.Toy.{toy};
 ghost use Rattle.speculation_law.specs.Sees.{Sees};
 ghost use Rattle.speculation_law.specs.Naming.{Sound};
 ghost use Rattle.speculation_law.specs.Totals.{Totalled};
 ghost use Rattle.speculation_law.specs.Fates.{TrackStays};
-ghost use Rattle.speculation_law.specs.Serial.{SerialHistory, IsAllowed};
+ghost use Rattle.speculation_law.specs.Serial.{SerialHistory, IsAllowed, IsSerialSoFar};
 
 /// Of every legal history, what came out and what may come out is a prefix of what the program alone writes within the
 /// budget, and the rows are a prefix of its ledger. Where the history has a finish, end and count are the program's own,
@@ -79,4 +79,14 @@ pub fn serial_steps_are_allowed()
 /// The serial history ends, where at least one region may be open, and then it has a finish.
 pub fn serial_history_ends()
     ensures { (program : List Instruction) (b : Settings) (start : State) → 0 < b.tracks → SerialHistory (toy program) b start }
+{}
+
+/// The serial history grows by what comes next, and is whole where nothing does.
+pub fn serial_history_grows()
+    ensures grows { (program : List Instruction) (b : Settings) (start : State) (entries xs : List Entry) (c : Core State End Difference) →
+        IsSerialSoFar (toy program) b start entries → IsHistory (toy program) b start entries c →
+        serial_next (toy program) b c ≡ Some xs → IsSerialSoFar (toy program) b start (entries ++ xs) }
+    ensures whole { (program : List Instruction) (b : Settings) (start : State) (entries : List Entry) (c : Core State End Difference) →
+        IsSerialSoFar (toy program) b start entries → IsHistory (toy program) b start entries c →
+        serial_next (toy program) b c ≡ None → IsSerial (toy program) b start entries }
 {}
