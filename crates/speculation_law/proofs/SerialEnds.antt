@@ -1,0 +1,161 @@
+-- The serial history ends, and then the core has a finish and nothing is left to release.
+use Rattle.std.proofs.Common.{◌≡◌, ℕ, zero, suc, ◌-◌, ◌<◌, ◌≤◌, Bool, true, false, ◌||◌, List, [], ◌∷◌, ◌++◌, Option, Some, None, length, is_some, nat_lt, refl, ap, ◌∙◌, ltb-false, arith}
+use Rattle.speculation.specs.declared.tracks.Name.{Name}
+use Rattle.speculation.specs.declared.history.Settings.{Settings}
+use Rattle.speculation.specs.declared.history.Entry.{Entry}
+use Rattle.speculation.specs.Machine.{Machine}
+use Rattle.speculation.specs.Run.{Mark}
+use Rattle.speculation.specs.Core.{Core, Finished, opening, front_home, verified}
+use Rattle.speculation.specs.Due.{Due, due}
+use Rattle.speculation.specs.Effects.{effect}
+use Rattle.speculation.specs.Events.{released_core, core_run}
+use Rattle.speculation.specs.Law.{Exact, IsHistory}
+use Rattle.speculation.specs.Serial.{first_lendable, serial_by, serial_next, next_of, serial_more, serial, IsSerial}
+use Rattle.speculation_law.specs.Naming.{Sound}
+use Rattle.speculation_law.specs.Serial.{SerialHistory}
+use Rattle.speculation_law.proofs.Happens.{lent_core, back_core}
+use Rattle.speculation_law.proofs.Soundness.{sound-opening, sound-on, core_run-append}
+use Rattle.speculation_law.proofs.SerialSteps.{Round, DueRound, ReleaseRound, LendRound, serial_next-round}
+use Rattle.speculation_law.proofs.Weights.{weigh, digits_of}
+use Rattle.speculation_law.proofs.SerialRounds.{Solo, solo-due, solo-released_by, solo-back, falls-due, falls-released, falls-lent}
+use Rattle.speculation_law.proofs.Progress.{progress}
+
+-- what it says that nothing comes next
+record Idle {S E D : Type 0} (d : Option (Due S E D)) (some : Bool) (n : Option Name) : Type 0 where
+  undue : d ≡ None
+  unshown : some ≡ false
+  unlendable : n ≡ None
+
+module _ {S E D : Type 0} (m : Machine S E D) (b : Settings) where
+  idle-by : (c : Core S E D) (d : Option (Due S E D)) (some : Bool) (n : Option Name) → serial_by m b c d some n ≡ None → Idle d some n
+  idle-by c (Some d) some n h = absurd (cc)
+  idle-by c None true n h = absurd (cc)
+  idle-by c None false (Some n) h = absurd (cc)
+  idle-by c None false None h = record { undue = refl; unshown = refl; unlendable = refl }
+
+  -- the finish of a core with which the serial history ended
+  pub record Ended (c : Core S E D) : Type 0 where
+    pub finished : Finished E
+    pub is : c.finish ≡ Some finished
+    pub released : verified b c ≡ []
+
+  finish-by : (o : Option (Finished E)) (halted : Bool) → halted ≡ false → (is_some o || halted) ≡ true → (f : Finished E) × (o ≡ Some f)
+  finish-by (Some f) halted h k = (f, refl)
+  finish-by None true h k = absurd (cc)
+  finish-by None false h k = absurd (cc)
+
+  none-left : (ms : List Mark) → length ms ≤ 0 → ms ≡ []
+  none-left [] h = refl
+  none-left (x ∷ ms) h = absurd (omega arith)
+
+  ended-idle : (start : S) (c : Core S E D) → Sound m b start c → Solo c → 0 < b.tracks → serial_next m b c ≡ None → Ended c
+  ended-idle start c sound solo some h =
+      let idle = idle-by c (due m b c) (nat_lt 0 (length (verified b c))) (first_lendable m b c c.regions) h in
+      let none = ltb-false 0 (length (verified b c)) idle.unshown in
+      let is_over = progress m b start c sound.good solo some idle.undue none idle.unlendable in
+      let finish = finish-by c.finish c.halted solo.running is_over in
+      record { finished = finish.0; is = finish.1; released = none-left (verified b c) none }
+
+  -- a round of a solo core
+  record Stepped (start : S) (c new : Core S E D) (xs : List Entry) : Type 0 where
+    leads : core_run m b (Some c) xs ≡ Some new
+    solo : Solo new
+    falls : weigh b (digits_of b new) < weigh b (digits_of b c)
+
+  record SomeStep (start : S) (c : Core S E D) (xs : List Entry) : Type 0 where
+    new : Core S E D
+    step : Stepped start c new xs
+
+  step-round : (start : S) (c : Core S E D) (xs : List Entry) → Exact m start → Sound m b start c → Solo c → Round m b c xs → SomeStep start c xs
+  step-round start c xs exact sound solo (DueRound d is leads) =
+      let after = sound-on m b start xs c (effect m b c d) exact sound leads in
+      record { new = effect m b c d; step = record { leads = leads; solo = solo-due m b c d solo; falls = falls-due m b start c d sound.good sound.bounded is after.bounded } }
+  step-round start c xs exact sound solo (ReleaseRound shown leads) =
+      let after = sound-on m b start xs c (released_core b c) exact sound leads in
+      record { new = released_core b c; step = record { leads = leads; solo = solo-released_by m b c (front_home c) (b.budget - c.base) (verified b c) solo; falls = falls-released m b c solo shown after.bounded } }
+  step-round start c xs exact sound solo (LendRound n t can leads) =
+      let new : Core S E D = back_core m b (lent_core c 0 n) n in
+      let after = sound-on m b start xs c new exact sound leads in
+      record { new = new; step = record { leads = leads; solo = solo-back m b c n solo; falls = falls-lent m b c n t can sound.bounded after.bounded } }
+
+  -- so many rounds lead from c to a core with which the serial history ends
+  pub record Finishes (start : S) (c : Core S E D) : Type 0 where
+    pub rounds : ℕ
+    pub last : Core S E D
+    pub leads : core_run m b (Some c) (serial m b rounds (Some c)) ≡ Some last
+    pub idle : serial_next m b last ≡ None
+    pub sound : Sound m b start last
+    pub solo : Solo last
+
+  run-none : (c : Core S E D) → core_run m b (Some c) [] ≡ Some c
+  unfolding core_run
+  run-none c = refl
+
+  finishes-now : (start : S) (c : Core S E D) → Sound m b start c → Solo c → serial_next m b c ≡ None → Finishes start c
+  unfolding serial
+  finishes-now start c sound solo h = record { rounds = 0; last = c; leads = run-none c; idle = h; sound = sound; solo = solo }
+
+  finishes-later : (start : S) (c : Core S E D) (xs : List Entry) → serial_next m b c ≡ Some xs → (step : SomeStep start c xs) → Finishes start step.new → Finishes start c
+  unfolding serial
+  finishes-later start c xs is step rest =
+      let next : serial m b (suc rest.rounds) (Some c) ≡ xs ++ serial m b rest.rounds (Some step.new)
+      = ap (serial_more (λ ys. serial m b rest.rounds (core_run m b (Some c) ys))) is ∙ ap (λ o. xs ++ serial m b rest.rounds o) step.step.leads in
+      record {
+        rounds = suc rest.rounds;
+        last = rest.last;
+        idle = rest.idle;
+        sound = rest.sound;
+        solo = rest.solo;
+        leads = ap (core_run m b (Some c)) next ∙ core_run-append m b start xs (serial m b rest.rounds (Some step.new)) (Some c)
+            ∙ ap (λ o. core_run m b o (serial m b rest.rounds (Some step.new))) step.step.leads ∙ rest.leads;
+      }
+
+  module _ (start : S) (exact : Exact m start) where
+    finishes-by : (c : Core S E D) (o : Option (List Entry)) → serial_next m b c ≡ o → Sound m b start c → Solo c
+        → ((k : Core S E D) → weigh b (digits_of b k) < weigh b (digits_of b c) → Sound m b start k → Solo k → Finishes start k) → Finishes start c
+    finishes-by c None is sound solo rest = finishes-now start c sound solo is
+    finishes-by c (Some xs) is sound solo rest =
+        let some = step-round start c xs exact sound solo (serial_next-round m b c xs sound.named is) in
+        finishes-later start c xs is some (rest some.new some.step.falls (sound-on m b start xs c some.new exact sound some.step.leads) some.step.solo)
+
+    -- the measure is enough rounds
+    finishes-within : (fuel : ℕ) (c : Core S E D) → weigh b (digits_of b c) ≤ fuel → Sound m b start c → Solo c → Finishes start c
+    finishes-within zero c h sound solo = finishes-by c (serial_next m b c) refl sound solo (λ k less sound2 solo2. absurd (omega arith))
+    finishes-within (suc fuel) c h sound solo = finishes-by c (serial_next m b c) refl sound solo (λ k less sound2 solo2. finishes-within fuel k (omega arith) sound2 solo2)
+
+    -- the serial history ends
+    pub serial-finishes : Finishes start (opening start)
+    serial-finishes =
+        let c : Core S E D = opening start in
+        let all : weigh b (digits_of b c) ≤ weigh b (digits_of b c) = omega arith in
+        finishes-within (weigh b (digits_of b c)) c all (sound-opening m b start) (record { loans = refl; lost = refl; running = refl })
+
+    -- with a finish, and nothing left to release
+    pub serial-ended : 0 < b.tracks → Ended serial-finishes.last
+    serial-ended some = ended-idle start serial-finishes.last serial-finishes.sound serial-finishes.solo some serial-finishes.idle
+
+    -- its entries
+    pub serial-entries : List Entry
+    serial-entries = serial m b serial-finishes.rounds (Some (opening start))
+
+    pub serial-is : IsSerial m b start serial-entries
+    unfolding serial-entries
+    serial-is = (serial-finishes.rounds, refl, ap (next_of m b) serial-finishes.leads ∙ serial-finishes.idle)
+
+    pub serial-history : IsHistory m b start serial-entries serial-finishes.last
+    unfolding serial-entries
+    serial-history = serial-finishes.leads
+
+    -- all of it
+    pub serial-whole : 0 < b.tracks → SerialHistory m b start
+    serial-whole some =
+        let ended = serial-ended some in
+        record {
+          entries = serial-entries;
+          serial = serial-is;
+          core = serial-finishes.last;
+          legal = serial-history;
+          finished = ended.finished;
+          finish = ended.is;
+          released = ended.released;
+        }
