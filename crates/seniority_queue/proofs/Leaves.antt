@@ -44,9 +44,11 @@ module _ {T : Type 0} where
             let at : i ≡ n.key.index = same_Some _ _ (sym first ∙ linked.at_front) in
             let next : younger ≡ after_at nodes n.key.index = sym leads ∙ ap (after_at nodes) at in
             let left : IsLinked new younger (cond (is_some younger) back None) (Some i) rest (i ∷ s.vacant) =
-              rw (next, at) (IsLinked-pop_front nodes cut new front back free n rest s.vacant value linked (rw next at sets) (rw at at vacates)) in
+            rw (next, at) (IsLinked-pop_front nodes cut new front back free n rest s.vacant value linked (rw next at sets) (rw at at vacates)) in
             let stands : Stands new younger (cond (is_some younger) back None) (Some i) (len - 1) made = record {
-              live = rest; vacant = i ∷ s.vacant; linked = left;
+              live = rest;
+              vacant = i ∷ s.vacant;
+              linked = left;
               count = omega (arith, count);
               named = NamesRise-lower (n.key.name + 1) 0 rest made (omega arith) named.1;
               fits = omega (arith, vacates.size, sets.size, s.fits);
@@ -66,21 +68,23 @@ module _ {T : Type 0} where
               let n = some.1 in
               let linked : IsLinked nodes front back free (rest ++ n ∷ []) s.vacant = rw some.2 at s.linked in
               let last_index : reverse (indices (rest ++ n ∷ [])) ≡ n.key.index ∷ reverse (indices rest) =
-                ap reverse (map-append (λ (m : LiveNode T). m.key.index) rest (n ∷ [])) ∙ reverse-append (indices rest) (n.key.index ∷ []) in
+              ap reverse (map-append (λ (m : LiveNode T). m.key.index) rest (n ∷ [])) ∙ reverse-append (indices rest) (n.key.index ∷ []) in
               let at : i ≡ n.key.index = same_Some _ _ (sym end ∙ linked.at_back ∙ ap (λ xs. slice_get xs 0) last_index) in
               let next : older ≡ before_at nodes n.key.index = sym leads ∙ ap (before_at nodes) at in
               let left : IsLinked new (cond (is_some older) front None) older (Some i) rest (i ∷ s.vacant) =
-                rw (next, at) (IsLinked-pop_back nodes cut new front back free n rest s.vacant value linked (rw next at sets) (rw at at vacates)) in
+              rw (next, at) (IsLinked-pop_back nodes cut new front back free n rest s.vacant value linked (rw next at sets) (rw at at vacates)) in
               let longer = length-append rest (n ∷ []) in
               let stands : Stands new (cond (is_some older) front None) older (Some i) (len - 1) made = record {
-                live = rest; vacant = i ∷ s.vacant; linked = left;
+                live = rest;
+                vacant = i ∷ s.vacant;
+                linked = left;
                 count = omega (arith, s.count, ap length some.2, longer);
                 named = NamesRise-front 0 rest n made (rw some.2 at s.named);
                 fits = omega (arith, vacates.size, sets.size, s.fits);
               } in
               let spares : suc (length s.vacant) ≡ length s.vacant + (length (rest ++ n ∷ []) - length rest) = omega (arith, longer) in
               leaves _ _ _ _ _ _ (keeping q (take (length q.nodes - 1) q.nodes)) stands
-                (rw (seen_as s is, some.2, take-push rest n) (ap (λ k. record { nodes = rest; spare = k; made = made }) spares))
+              (rw (seen_as s is, some.2, take-push rest n) (ap (λ k. record { nodes = rest; spare = k; made = made }) spares))
         ]
 
     -- a node more at the end
@@ -93,9 +97,11 @@ module _ {T : Type 0} where
             let at : j ≡ i = same_Some _ _ (sym linked.at_free ∙ first) in
             let n : LiveNode T = record { key = record { index = i; name = made }; value = value } in
             let left : IsLinked new (cond (is_some back) front (Some i)) (Some i) (after_at nodes i) (s.live ++ n ∷ []) rest =
-              IsLinked-push nodes written new front back free s.live i rest n node (rw at at linked) refl (ap (live_of i) node_is) (ap (λ (m : Node T). m.before) node_is) (ap (λ (m : Node T). m.after) node_is) writes sets in
+            IsLinked-push nodes written new front back free s.live i rest n node (rw at at linked) refl (ap (live_of i) node_is) (ap (λ (m : Node T). m.before) node_is) (ap (λ (m : Node T). m.after) node_is) writes sets in
             let stands : Stands new (cond (is_some back) front (Some i)) (Some i) (after_at nodes i) (len + 1) (made + 1) = record {
-              live = s.live ++ n ∷ []; vacant = rest; linked = left;
+              live = s.live ++ n ∷ [];
+              vacant = rest;
+              linked = left;
               count = omega (arith, s.count, length-append s.live (n ∷ []));
               named = NamesRise-push 0 s.live n made refl s.named;
               fits = omega (arith, writes.size, sets.size, s.fits);
@@ -108,9 +114,11 @@ module _ {T : Type 0} where
     push_free-leaves n empty next fits =
         let longer = length-append nodes (n ∷ []) in
         let stands : Stands (nodes ++ n ∷ []) front back (Some (length nodes)) len made = record {
-          live = s.live; vacant = length nodes ∷ s.vacant;
+          live = s.live;
+          vacant = length nodes ∷ s.vacant;
           linked = IsLinked-push_free nodes front back free s.live s.vacant n s.linked empty next;
-          count = s.count; named = s.named;
+          count = s.count;
+          named = s.named;
           fits = omega (arith, longer);
         } in
         let spares : suc (length s.vacant) ≡ length s.vacant + 1 = omega arith in

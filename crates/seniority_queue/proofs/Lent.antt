@@ -66,7 +66,7 @@ module _ {T : Type 0} where
               let is = key_was m held.0 here.1 in
               let has : has_key key m ≡ true = and_from _ _ here.0 (eq-eqb m.key.name key.name (ap (λ (k : Key). k.name) is)) in
               let new : live_at (set nodes key.index (record n { value = Some w })) m.key.index ≡ Some (record m { value = w }) =
-                rewritten.live m.key.index ∙ rw here.0 (ap (λ k. Some (record { key = k; value = w })) (ap (λ a. record { index = key.index; name = a }) named ∙ sym is)) in
+              rewritten.live m.key.index ∙ rw here.0 (ap (λ k. Some (record { key = k; value = w })) (ap (λ a. record { index = key.index; name = a }) named ∙ sym is)) in
               rw has (new, later)
           | inr other ↦
               let has : has_key key m ≡ false = and_left _ _ other.0 in
@@ -110,7 +110,8 @@ module _ {T : Type 0} where
         let counts : length (map (replaced key w) s.live) ≡ length s.live = length-map s.live (replaced key w) in
         let apart : (j : ℕ) → 0 < times j s.vacant → j ≢ key.index = λ j also e. omega (arith, at_most_once nodes front back free s.live s.vacant l key.index, rw e at also) in
         let stands : Stands (set nodes key.index (record n { value = Some w })) front back free len made = record {
-          live = map (replaced key w) s.live; vacant = s.vacant;
+          live = map (replaced key w) s.live;
+          vacant = s.vacant;
           linked = record {
             forward = rw same_indices (IsChain-agree (after_at nodes) (after_at (set nodes key.index (record n { value = Some w }))) (indices s.live) (λ j also. after_same nodes key n w at known.0 j) l.forward);
             at_front = rw same_indices l.at_front;

@@ -1,3 +1,4 @@
+pub mod KeyLemmas
 pub mod Counts
 pub mod Chains
 pub mod Nodes

@@ -35,8 +35,17 @@ module _ {T : Type 0} where
 
   pub IsLinked-none : IsLinked {T = T} [] None None None [] []
   IsLinked-none = record {
-    forward = tt; at_front = refl; backward = tt; at_back = refl; chained = tt; at_free = refl; values = tt; no_value = tt;
-    once = λ i below. absurd (omega arith); inside = λ i above. refl; total = refl;
+    forward = tt;
+    at_front = refl;
+    backward = tt;
+    at_back = refl;
+    chained = tt;
+    at_free = refl;
+    values = tt;
+    no_value = tt;
+    once = λ i below. absurd (omega arith);
+    inside = λ i above. refl;
+    total = refl;
   }
 
   module _ (nodes : List (Node T)) (front back free : Option ℕ) where
@@ -69,21 +78,22 @@ module _ {T : Type 0} where
       let in_live : (j : ℕ) → 0 < times j (indices live) → j ≢ i = λ j among e. omega (arith, rw e at among, alone.0) in
       let in_rest : (j : ℕ) → 0 < times j rest → j ≢ i = λ j among e. omega (arith, rw e at among, alone.1) in
       let rest_after : (j : ℕ) → 0 < times j rest → after_at new j ≡ after_at nodes j = λ j among.
-        let absent : times j (indices live) ≡ 0 = omega (arith, was j, times-cons-le j i rest) in
-        let apart : is_at back j ≡ false = ap (λ o. is_at o j) last_is ∙ is_at-last (indices live) j absent in
-        sets.after j ∙ rw apart (after_other j (in_rest j among)) in
+      let absent : times j (indices live) ≡ 0 = omega (arith, was j, times-cons-le j i rest) in
+      let apart : is_at back j ≡ false = ap (λ o. is_at o j) last_is ∙ is_at-last (indices live) j absent in
+      sets.after j ∙ rw apart (after_other j (in_rest j among)) in
       let sizes : length new ≡ length nodes = sets.size ∙ writes.size in
       let new_live : live_at new n.key.index ≡ Some n = ap (live_at new) index ∙ sets.live i ∙ writes.live i ∙ rw same holds in
       record {
         forward = rw listed (IsChain-join (after_at nodes) (after_at new) (indices live) [] (i ∷ [])
-          (λ j. omega (arith, was j))
-          (λ j among. rw (← last_is) (sets.after j ∙ ap (cond (is_at back j) (Some i)) (after_other j (in_live j among))))
-          (rw append-nil linked.forward)
-          (after_new, tt));
+            (λ j. omega (arith, was j))
+            (λ j among. rw (← last_is) (sets.after j ∙ ap (cond (is_at back j) (Some i)) (after_other j (in_live j among))))
+            (rw append-nil linked.forward)
+            (after_new, tt));
         at_front = rw listed (first-push (indices live) front back i linked.at_front last_is);
         backward = rw (listed, reversed) (
           before_new ∙ linked.at_back,
-          IsChain-agree (before_at nodes) (before_at new) (reverse (indices live)) (λ j among. before_other j (in_live j (rw times-reverse at among))) linked.backward);
+          IsChain-agree (before_at nodes) (before_at new) (reverse (indices live)) (λ j among. before_other j (in_live j (rw times-reverse at among))) linked.backward,
+        );
         at_back = rw (listed, reversed) refl;
         chained = IsChain-agree (after_at nodes) (after_at new) rest rest_after linked.chained.1;
         at_free = linked.chained.0;
@@ -115,10 +125,10 @@ module _ {T : Type 0} where
         forward = IsChain-agree (after_at nodes) (after_at new) (indices rest) (λ j among. after_other j (in_rest j among)) linked.forward.1;
         at_front = younger;
         backward = rw append-nil at (IsChain-join (before_at nodes) (before_at new) (reverse (indices rest)) (i ∷ []) []
-          (λ j. rw times-reverse (omega (arith, was j, times-cons-le j i (indices rest))))
-          (λ j among. rw (← younger_last) (before_other j (in_rest j (rw times-reverse at among)) ∙ sets.before j))
-          (rw (← reversed) linked.backward)
-          tt);
+            (λ j. rw times-reverse (omega (arith, was j, times-cons-le j i (indices rest))))
+            (λ j among. rw (← younger_last) (before_other j (in_rest j (rw times-reverse at among)) ∙ sets.before j))
+            (rw (← reversed) linked.backward)
+            tt);
         at_back = first-pop (reverse (indices rest)) back (after_at nodes i) i (linked.at_back ∙ ap (λ xs. slice_get xs 0) reversed) younger_last;
         chained = (vacates.after i ∙ rw same linked.at_free, IsChain-agree (after_at nodes) (after_at new) vacant (λ j among. after_other j (in_vacant j among)) linked.chained);
         at_free = refl;
@@ -149,16 +159,16 @@ module _ {T : Type 0} where
       let in_rest : (j : ℕ) → 0 < times j (indices rest) → j ≢ i = λ j among e. omega (arith, rw e at among, alone.0) in
       let in_vacant : (j : ℕ) → 0 < times j vacant → j ≢ i = λ j among e. omega (arith, rw e at among, alone.1) in
       let vacant_after : (j : ℕ) → 0 < times j vacant → after_at new j ≡ after_at nodes j = λ j among.
-        let absent : times j (indices rest) ≡ 0 = omega (arith, was j, counted j) in
-        let apart : is_at (before_at nodes i) j ≡ false = ap (λ o. is_at o j) older_last ∙ is_at-last (indices rest) j absent in
-        after_other j (in_vacant j among) ∙ sets.after j ∙ rw apart refl in
+      let absent : times j (indices rest) ≡ 0 = omega (arith, was j, counted j) in
+      let apart : is_at (before_at nodes i) j ≡ false = ap (λ o. is_at o j) older_last ∙ is_at-last (indices rest) j absent in
+      after_other j (in_vacant j among) ∙ sets.after j ∙ rw apart refl in
       let sizes : length new ≡ length nodes = vacates.size ∙ sets.size in
       record {
         forward = rw append-nil at (IsChain-join (after_at nodes) (after_at new) (indices rest) (i ∷ []) []
-          (λ j. omega (arith, was j, counted j))
-          (λ j among. rw (← older_last) (after_other j (in_rest j among) ∙ sets.after j))
-          (rw (← listed) linked.forward)
-          tt);
+            (λ j. omega (arith, was j, counted j))
+            (λ j among. rw (← older_last) (after_other j (in_rest j among) ∙ sets.after j))
+            (rw (← listed) linked.forward)
+            tt);
         at_front = first-pop (indices rest) front (before_at nodes i) i (linked.at_front ∙ ap (λ xs. slice_get xs 0) listed) older_last;
         backward = IsChain-agree (before_at nodes) (before_at new) (reverse (indices rest)) (λ j among. before_other j (in_rest j (rw times-reverse at among))) backward.1;
         at_back = older;

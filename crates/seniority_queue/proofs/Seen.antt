@@ -90,9 +90,9 @@ module _ {T : Type 0} where
         elim (cases_lt 0 (times i (indices s.live))) [
           | inl among ↦ among
           | inr absent ↦ elim (cases_lt i (length nodes)) [
-              | inl within ↦ absurd (none-some n (sym (AllVacant-none nodes s.vacant i s.linked.no_value (omega (arith, s.linked.once i within))) ∙ is))
-              | inr past ↦ absurd (none-some n (sym (ap (option_and_then (live_of i)) (slice_get_past nodes i past)) ∙ is))
-            ]
+            | inl within ↦ absurd (none-some n (sym (AllVacant-none nodes s.vacant i s.linked.no_value (omega (arith, s.linked.once i within))) ∙ is))
+            | inr past ↦ absurd (none-some n (sym (ap (option_and_then (live_of i)) (slice_get_past nodes i past)) ∙ is))
+          ]
         ]
 
     pub listed_at : (i : ℕ) (n : Node T) → slice_get nodes i ≡ Some n → IsSome n.value → 0 < times i (indices s.live)

@@ -1,11 +1,13 @@
 -- What the fields stand for, and what holds of it
-use Rattle.std.proofs.Common.{◌≡◌, ◌≢◌, ℕ, zero, suc, ◌+◌, ◌-◌, ◌^◌, ◌<◌, ◌≤◌, List, [], ◌∷◌, ◌++◌, length, map, reverse, slice_get, get_or, Option, Some, None, filter_map, refl, sym, ap, ◌∙◌, inl, inr, arith}
+use Rattle.std.proofs.Common.{◌≡◌, ◌≢◌, ℕ, zero, suc, ◌+◌, ◌-◌, ◌^◌, ◌<◌, ◌≤◌, List, [], ◌∷◌, ◌++◌, length, map, reverse, slice_get, get_or, Option, Some, None, filter_map, option_map, AllPairs, refl, sym, ap, ◌∙◌, inl, inr, arith}
 use Rattle.std.proofs.lemmas.List.{length-map}
+use Rattle.std.proofs.lemmas.Option.{slice_get-get_or}
 use Rattle.seniority_queue.specs.Listing.{LiveNode, Listing, indices, IsSound}
 use Rattle.seniority_queue.specs.Node.{live_at, after_at}
 use Rattle.seniority_queue.specs.Links.{walk, times, AllLive, IsLinked}
 use Rattle.seniority_queue.specs.Stands.{listing, NamesRise, Stands}
 use Rattle.seniority_queue.specs.declared.node.Node.{Node}
+use Rattle.seniority_queue.proofs.KeyLemmas.{find-at}
 use Rattle.seniority_queue.proofs.Counts.{times-self, times-cons-le}
 use Rattle.seniority_queue.proofs.Chains.{walk_chain}
 use Rattle.seniority_queue.proofs.Linked.{is_inside, at_most_once}
@@ -72,9 +74,11 @@ module _ {T : Type 0} where
     pub IsSound-stands : IsSound q
     IsSound-stands =
         let l = s.linked in
+        let apart : AllPairs (λ m n. m.key.index ≢ n.key.index) s.live = λ i j d order within same. omega (arith, times-two s.live i j d order within same, at_most_once nodes front back free s.live s.vacant l (get_or s.live j d).key.index) in
         rw seen_as record {
           index_below = λ k d within. omega (arith, l.total, is_inside nodes front back free s.live s.vacant l (get_or s.live k d).key.index (omega (arith, times-at s.live k d within)));
-          indices_apart = λ i j d order within same. omega (arith, times-two s.live i j d order within same, at_most_once nodes front back free s.live s.vacant l (get_or s.live j d).key.index);
+          indices_apart = apart;
+          found = λ k d within. ap (option_map (λ (m : LiveNode T). m.value)) (find-at s.live k (get_or s.live k d) apart (slice_get-get_or s.live k d within));
           name_below = λ k d within. (NamesRise-at 0 s.live made k d s.named within).1;
           names_rise = λ i j d order within. NamesRise-two 0 s.live made i j d s.named order within;
           fits = omega (arith, l.total, s.fits);

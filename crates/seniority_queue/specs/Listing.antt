@@ -85,10 +85,12 @@ module _ {T : Type 0} where
   with_value q key value = record q { nodes = map (λ n. if has_key key n then record n { value = value } else n) q.nodes }
 
   -- What holds of every queue. The index of each live node is below the length plus `spare`, and no two live nodes have
-  -- one index. Names rise from the oldest to the youngest, below `made`: so no key of a node that has left is ever found.
+  -- one index. Names rise from the oldest to the youngest, below `made`. So each live node is found by its key, and since
+  -- a node that is put in later has a greater name, the key of one that has left is never found again.
   pub record IsSound (q : Listing T) : Type 0 where
     pub index_below : All (λ n. n.key.index < length q.nodes + q.spare) q.nodes
     pub indices_apart : AllPairs (λ m n. m.key.index ≢ n.key.index) q.nodes
     pub name_below : All (λ n. n.key.name < q.made) q.nodes
     pub names_rise : AllPairs (λ m n. m.key.name < n.key.name) q.nodes
+    pub found : All (λ n. get q n.key ≡ Some n.value) q.nodes
     pub fits : length q.nodes + q.spare < 2 ^ 32

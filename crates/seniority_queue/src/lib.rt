@@ -6,6 +6,8 @@ mod key;
 mod links;
 mod node;
 mod queue;
+#[cfg(test)]
+mod tests;
 
 pub use basic_types::NoMemory;
 pub use key::Key;
