@@ -1,9 +1,9 @@
 -- Chains of indices: how writes change them
-use Rattle.std.proofs.Common.{◌≡◌, ◌≢◌, ℕ, zero, suc, ◌+◌, ◌<◌, ◌≤◌, Bool, true, false, List, [], ◌∷◌, ◌++◌, length, Option, Some, None, is_some, cond, eqb, reverse, slice_get, refl, sym, ap, ◌∙◌, inl, inr, arith, length-append}
+use Rattle.std.proofs.Common.{◌≡◌, ℕ, ◌<◌, ◌≤◌, true, false, List, [], ◌∷◌, ◌++◌, length, Option, Some, None, is_some, cond, reverse, slice_get, refl, sym, ap, ◌∙◌, arith}
 use Rattle.std.proofs.lemmas.Bool.{eq-eqb, ne_eqb}
 use Rattle.std.proofs.lemmas.List.{reverse-append, length-reverse}
 use Rattle.seniority_queue.specs.Links.{IsChain, walk, times, is_at}
-use Rattle.seniority_queue.proofs.Counts.{times-self, times-other, times-cons, times-cons-le}
+use Rattle.seniority_queue.proofs.Counts.{times-self, times-cons-le}
 
 -- the last index of a list
 abbrev pub last : List ℕ → Option ℕ

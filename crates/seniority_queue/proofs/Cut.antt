@@ -1,9 +1,8 @@
 -- `cut_after`, one node after another
-use Rattle.std.proofs.Common.{◌≡◌, ◌⊎◌, ℕ, ◌+◌, ◌-◌, ◌<◌, ◌≤◌, true, false, List, [], ◌∷◌, ◌++◌, length, take, find, Option, Some, None, is_some, IsSome, option_map, refl, ap, inl, inr, arith, length-append}
+use Rattle.std.proofs.Common.{◌≡◌, ◌⊎◌, ◌+◌, ◌-◌, ◌<◌, ◌≤◌, true, false, List, [], ◌∷◌, ◌++◌, length, take, is_some, IsSome, refl, ap, inl, inr, arith, length-append}
 use Rattle.std.proofs.lemmas.Bool.{cases_Bool, both_ways}
 use Rattle.std.proofs.lemmas.List.{take_at}
-use Rattle.std.proofs.lemmas.Option.{none-some}
-use Rattle.seniority_queue.specs.Listing.{LiveNode, Listing, has_key, first_key, key_after, through, keeping, IsLive}
+use Rattle.seniority_queue.specs.Listing.{LiveNode, Listing, has_key, key_after, through, keeping}
 use Rattle.seniority_queue.specs.declared.key.Key.{Key}
 
 -- a list is empty, or has a last element

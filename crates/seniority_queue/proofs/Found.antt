@@ -1,13 +1,13 @@
 -- The live node with a key, in the list and in the vector
-use Rattle.std.proofs.Common.{◌≡◌, ◌≢◌, ℕ, zero, suc, ◌+◌, ◌<◌, ◌≤◌, Bool, true, false, ◌&&◌, List, [], ◌∷◌, ◌++◌, length, map, slice_get, find, Option, Some, None, is_some, option_map, option_and_then, unwrap_or, cond, eqb, refl, sym, ap, ◌∙◌, inl, inr, arith}
+use Rattle.std.proofs.Common.{◌≡◌, ℕ, ◌<◌, Bool, true, false, ◌&&◌, List, [], ◌∷◌, slice_get, find, Option, Some, None, is_some, option_map, option_and_then, unwrap_or, cond, eqb, refl, sym, ap, ◌∙◌, inl, inr, arith}
 use Rattle.std.proofs.lemmas.Bool.Decides.{eqb_tells}
 use Rattle.std.proofs.lemmas.Option.{same_Some}
 use Rattle.seniority_queue.specs.Listing.{LiveNode, indices, has_key, first_key, last_key, key_after}
-use Rattle.seniority_queue.specs.Node.{live_of, live_at, after_at, key_of, if_named, node_with}
+use Rattle.seniority_queue.specs.Node.{live_of, live_at, after_at, key_of, if_named}
 use Rattle.seniority_queue.specs.Links.{IsChain, times, AllLive}
 use Rattle.seniority_queue.specs.declared.key.Key.{Key}
 use Rattle.seniority_queue.specs.declared.node.Node.{Node}
-use Rattle.seniority_queue.proofs.Counts.{times-none, times-self, times-other}
+use Rattle.seniority_queue.proofs.Counts.{times-other}
 use Rattle.seniority_queue.proofs.Chains.{last}
 
 module _ {T : Type 0} where

@@ -1,22 +1,22 @@
 -- What each operation leaves
-use Rattle.std.proofs.Common.{◌≡◌, ◌≢◌, ℕ, zero, suc, ◌+◌, ◌-◌, ◌^◌, ◌<◌, ◌≤◌, List, [], ◌∷◌, ◌++◌, length, map, take, drop, reverse, slice_get, Option, Some, None, is_some, option_map, cond, refl, sym, ap, ◌∙◌, inl, inr, arith, length-append}
+use Rattle.std.proofs.Common.{◌≡◌, ℕ, suc, ◌+◌, ◌-◌, ◌^◌, ◌<◌, ◌≤◌, List, [], ◌∷◌, ◌++◌, length, take, drop, reverse, slice_get, Option, Some, None, is_some, option_map, cond, refl, sym, ap, ◌∙◌, inl, inr, arith, length-append}
 use Rattle.std.proofs.lemmas.Option.{same_Some, none-some}
 use Rattle.std.proofs.lemmas.List.{map-append, reverse-append}
 use Rattle.seniority_queue.specs.Listing.{LiveNode, Listing, indices, keeping, pushed}
 use Rattle.seniority_queue.specs.Node.{live_of, live_at, before_at, after_at}
 use Rattle.seniority_queue.specs.Links.{IsLinked, SetsAfter, SetsBefore, Writes, Vacates}
-use Rattle.seniority_queue.specs.Stands.{listing, NamesRise, Stands}
+use Rattle.seniority_queue.specs.Stands.{listing_of, NamesRise, Stands}
 use Rattle.seniority_queue.specs.declared.key.Key.{Key}
 use Rattle.seniority_queue.specs.declared.node.Node.{Node}
 use Rattle.seniority_queue.proofs.Linked.{IsLinked-push, IsLinked-pop_front, IsLinked-pop_back, IsLinked-push_free}
-use Rattle.seniority_queue.proofs.Stood.{listing_is, seen_as, nodes_are}
+use Rattle.seniority_queue.proofs.Stood.{listing_is, seen_as}
 use Rattle.seniority_queue.proofs.Cut.{split_last, take-push}
 
 module _ {T : Type 0} where
   -- these fields hold together, and are seen as q
   pub record Leaves (nodes : List (Node T)) (front back free : Option ℕ) (len made : ℕ) (q : Listing T) : Type 0 where
     pub stands : Stands nodes front back free len made
-    pub listing_is : listing nodes front len made ≡ q
+    pub listing_is : listing_of nodes front len made ≡ q
 
   pub leaves : (nodes : List (Node T)) (front back free : Option ℕ) (len made : ℕ) (q : Listing T) (s : Stands nodes front back free len made) → record { nodes = s.live; spare = length s.vacant; made = made } ≡ q → Leaves nodes front back free len made q
   leaves nodes front back free len made q s is = record { stands = s; listing_is = listing_is nodes front back free len made s.live s.vacant s.linked s.count ∙ is }
@@ -33,7 +33,7 @@ module _ {T : Type 0} where
   NamesRise-push low [] n made named rise = (omega (arith, rise), omega arith)
   NamesRise-push low (m ∷ rest) n made named rise = (rise.0, NamesRise-push (m.key.name + 1) rest n made named rise.1)
 
-  module _ {nodes : List (Node T)} {front back free : Option ℕ} {len made : ℕ} {q : Listing T} (s : Stands nodes front back free len made) (is : listing nodes front len made ≡ q) where
+  module _ {nodes : List (Node T)} {front back free : Option ℕ} {len made : ℕ} {q : Listing T} (s : Stands nodes front back free len made) (is : listing_of nodes front len made ≡ q) where
     -- the oldest node leaves
     pub pop_front-leaves : (cut new : List (Node T)) (i : ℕ) (younger : Option ℕ) (value : T) → front ≡ Some i → after_at nodes i ≡ younger → SetsBefore nodes cut younger None → Vacates cut new i free value → Leaves new younger (cond (is_some younger) back None) (Some i) (len - 1) made (keeping q (drop 1 q.nodes)) × (Some value ≡ option_map (λ n. n.value) (slice_get q.nodes 0))
     pop_front-leaves cut new i younger value first leads sets vacates = by_live s.live s.linked s.count s.named (seen_as s is)

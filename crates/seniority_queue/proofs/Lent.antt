@@ -1,13 +1,13 @@
 -- A value that is replaced through a `&mut`
-use Rattle.std.proofs.Common.{◌≡◌, ◌≢◌, ◌&&◌, ℕ, ◌+◌, ◌<◌, ◌≤◌, Bool, true, false, List, [], ◌∷◌, length, map, set, reverse, slice_get, Option, Some, None, is_some, IsSome, option_map, option_and_then, cond, eqb, refl, sym, ap, ◌∙◌, inl, inr, arith, length-set}
+use Rattle.std.proofs.Common.{◌≡◌, ◌≢◌, ◌&&◌, ℕ, ◌+◌, ◌<◌, Bool, true, false, List, [], ◌∷◌, length, map, set, reverse, slice_get, Option, Some, None, is_some, IsSome, option_map, option_and_then, cond, eqb, refl, sym, ap, ◌∙◌, inl, inr, arith, length-set}
 use Rattle.std.proofs.lemmas.Bool.{cases_Bool, cases_lt, and_parts, and_left, and_from, eqb-true, eq-eqb, ne_eqb, both_ways}
 use Rattle.std.proofs.lemmas.Bool.Decides.{eqb_tells}
 use Rattle.std.proofs.lemmas.List.{length-map}
 use Rattle.std.proofs.lemmas.Option.{same_Some, none-some, slice_get_within, slice_get_past}
 use Rattle.seniority_queue.specs.Listing.{LiveNode, Listing, indices, has_key, get, IsLive, with_value}
 use Rattle.seniority_queue.specs.Node.{live_of, live_at, before_at, after_at, if_named, node_with}
-use Rattle.seniority_queue.specs.Links.{IsChain, times, AllLive, AllVacant, IsLinked, Writes}
-use Rattle.seniority_queue.specs.Stands.{listing, NamesRise, Stands}
+use Rattle.seniority_queue.specs.Links.{times, AllLive, Writes}
+use Rattle.seniority_queue.specs.Stands.{listing_of, NamesRise, Stands}
 use Rattle.seniority_queue.specs.declared.key.Key.{Key}
 use Rattle.seniority_queue.specs.declared.node.Node.{Node}
 use Rattle.seniority_queue.proofs.Nodes.{Writes-set}
@@ -73,7 +73,7 @@ module _ {T : Type 0} where
               rw has (live_other m.key.index other.1 ∙ held.0, later)
         ]
 
-  module _ {nodes : List (Node T)} {front back free : Option ℕ} {len made : ℕ} {q : Listing T} (s : Stands nodes front back free len made) (is : listing nodes front len made ≡ q) (key : Key) (live : IsLive q key) where
+  module _ {nodes : List (Node T)} {front back free : Option ℕ} {len made : ℕ} {q : Listing T} (s : Stands nodes front back free len made) (is : listing_of nodes front len made ≡ q) (key : Key) (live : IsLive q key) where
     -- the key of a live node has a node, with its name and a value
     pub key_inside : key.index < length nodes
     key_inside =

@@ -1,12 +1,12 @@
 -- How the operations keep the links
-use Rattle.std.proofs.Common.{◌≡◌, ◌≢◌, ℕ, zero, suc, ◌+◌, ◌<◌, ◌≤◌, true, false, List, [], ◌∷◌, ◌++◌, length, map, reverse, slice_get, Option, Some, None, is_some, option_map, cond, eqb, refl, sym, ap, ◌∙◌, inl, inr, arith, length-append}
-use Rattle.std.proofs.lemmas.Bool.{eq-eqb, ne_eqb, cases_eq, cases_lt}
+use Rattle.std.proofs.Common.{◌≡◌, ◌≢◌, ℕ, ◌+◌, ◌<◌, ◌≤◌, true, false, List, [], ◌∷◌, ◌++◌, length, reverse, slice_get, Option, Some, None, is_some, cond, eqb, refl, sym, ap, ◌∙◌, inl, inr, arith, length-append}
+use Rattle.std.proofs.lemmas.Bool.{eq-eqb, ne_eqb, cases_lt}
 use Rattle.std.proofs.lemmas.List.{append-nil, map-append, reverse-append}
 use Rattle.seniority_queue.specs.Listing.{LiveNode, indices}
 use Rattle.seniority_queue.specs.Node.{live_of, live_at, before_at, after_at}
 use Rattle.seniority_queue.specs.Links.{IsChain, times, is_at, AllLive, AllVacant, IsLinked, SetsAfter, SetsBefore, Writes, Vacates}
 use Rattle.seniority_queue.specs.declared.node.Node.{Node}
-use Rattle.seniority_queue.proofs.Counts.{times-append, times-self, times-other, times-cons, times-cons-le, times-reverse}
+use Rattle.seniority_queue.proofs.Counts.{times-append, times-self, times-cons, times-cons-le, times-reverse}
 use Rattle.seniority_queue.proofs.Nodes.{read-push_same, read-push_other}
 use Rattle.seniority_queue.proofs.Chains.{last, last-reverse, first-reverse, first-push, first-pop, is_at-last, IsChain-agree, IsChain-join}
 

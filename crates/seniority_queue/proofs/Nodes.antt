@@ -1,8 +1,8 @@
 -- What one write of a node changes
-use Rattle.std.proofs.Common.{◌≡◌, ◌≢◌, ℕ, zero, suc, ◌<◌, List, [], ◌∷◌, ◌++◌, length, set, get_or, slice_get, Option, Some, None, option_and_then, inl, inr, cond, eqb, refl, ap, ◌∙◌, arith, length-set}
+use Rattle.std.proofs.Common.{◌≡◌, ◌≢◌, ℕ, zero, suc, ◌<◌, List, [], ◌∷◌, ◌++◌, length, set, get_or, slice_get, Option, Some, option_and_then, inl, inr, cond, eqb, refl, ap, arith, length-set}
 use Rattle.std.proofs.lemmas.Bool.Decides.{eqb_tells}
 use Rattle.std.proofs.lemmas.Option.{slice_get_read}
-use Rattle.seniority_queue.specs.Node.{live_of, live_at, before_at, after_at}
+use Rattle.seniority_queue.specs.Node.{live_of, before_at, after_at}
 use Rattle.seniority_queue.specs.Links.{Writes}
 use Rattle.seniority_queue.specs.declared.node.Node.{Node}
 

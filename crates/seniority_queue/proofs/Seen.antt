@@ -1,15 +1,15 @@
 -- What the fields of a queue say of its listing
-use Rattle.std.proofs.Common.{◌≡◌, ◌≢◌, ℕ, zero, suc, ◌+◌, ◌<◌, ◌≤◌, Bool, true, false, List, [], ◌∷◌, ◌++◌, length, map, reverse, slice_get, find, Option, Some, None, is_some, IsSome, option_map, option_and_then, cond, refl, sym, ap, ◌∙◌, inl, inr, arith}
+use Rattle.std.proofs.Common.{◌≡◌, ℕ, ◌<◌, true, false, List, [], ◌∷◌, length, reverse, slice_get, find, Option, Some, None, is_some, IsSome, option_map, option_and_then, refl, sym, ap, ◌∙◌, inl, inr, arith}
 use Rattle.std.proofs.lemmas.Bool.{cases_lt, and_parts, both_ways}
-use Rattle.std.proofs.lemmas.Option.{same_Some, none-some, cond_some, slice_get_within, slice_get_past}
+use Rattle.std.proofs.lemmas.Option.{same_Some, none-some, cond_some, slice_get_past}
 use Rattle.seniority_queue.specs.Listing.{LiveNode, Listing, indices, has_key, first_key, last_key, key_after, get}
 use Rattle.seniority_queue.specs.Node.{live_of, live_at, before_at, after_at, key_of, if_named, node_with}
 use Rattle.seniority_queue.specs.Links.{IsChain, times, AllLive, AllVacant, HoldsValue}
-use Rattle.seniority_queue.specs.Stands.{listing, Stands}
+use Rattle.seniority_queue.specs.Stands.{listing_of, Stands}
 use Rattle.seniority_queue.specs.declared.key.Key.{Key}
 use Rattle.seniority_queue.specs.declared.node.Node.{Node}
-use Rattle.seniority_queue.proofs.Counts.{times-none, times-self, times-cons, times-cons-le, times-reverse}
-use Rattle.seniority_queue.proofs.Chains.{last, first-reverse}
+use Rattle.seniority_queue.proofs.Counts.{times-none, times-cons, times-cons-le, times-reverse}
+use Rattle.seniority_queue.proofs.Chains.{first-reverse}
 use Rattle.seniority_queue.proofs.Linked.{is_inside}
 use Rattle.seniority_queue.proofs.Stood.{seen_as, nodes_are}
 use Rattle.seniority_queue.proofs.Found.{find-value, node_with-value, first_key-live, last_key-live, key_after-live}
@@ -102,7 +102,7 @@ module _ {T : Type 0} where
         by_value None none = absurd (both_ways false refl (rw none at some))
         by_value (Some v) held = among_holds i (record { key = record { index = i; name = n.name }; value = v }) (rw (at, held) refl)
 
-    module _ {q : Listing T} (is : listing nodes front len made ≡ q) where
+    module _ {q : Listing T} (is : listing_of nodes front len made ≡ q) where
       -- a spare node is there to be taken
       pub free_some : 0 < q.spare → IsSome free
       free_some spare =

@@ -1,11 +1,11 @@
 -- What the fields stand for, and what holds of it
-use Rattle.std.proofs.Common.{◌≡◌, ◌≢◌, ℕ, zero, suc, ◌+◌, ◌-◌, ◌^◌, ◌<◌, ◌≤◌, List, [], ◌∷◌, ◌++◌, length, map, reverse, slice_get, get_or, Option, Some, None, filter_map, option_map, AllPairs, refl, sym, ap, ◌∙◌, inl, inr, arith}
-use Rattle.std.proofs.lemmas.List.{length-map}
+use Rattle.std.proofs.Common.{◌≡◌, ◌≢◌, ℕ, zero, suc, ◌+◌, ◌-◌, ◌<◌, ◌≤◌, List, [], ◌∷◌, length, reverse, get_or, Option, filter_map, option_map, AllPairs, refl, sym, ap, ◌∙◌, arith}
+use Rattle.std.proofs.lemmas.List.{length-map, length-reverse}
 use Rattle.std.proofs.lemmas.Option.{slice_get-get_or}
 use Rattle.seniority_queue.specs.Listing.{LiveNode, Listing, indices, IsSound}
-use Rattle.seniority_queue.specs.Node.{live_at, after_at}
+use Rattle.seniority_queue.specs.Node.{live_at, before_at, after_at}
 use Rattle.seniority_queue.specs.Links.{walk, times, AllLive, IsLinked}
-use Rattle.seniority_queue.specs.Stands.{listing, NamesRise, Stands}
+use Rattle.seniority_queue.specs.Stands.{listing_of, NamesRise, Stands}
 use Rattle.seniority_queue.specs.declared.node.Node.{Node}
 use Rattle.seniority_queue.proofs.KeyLemmas.{find-at}
 use Rattle.seniority_queue.proofs.Counts.{times-self, times-cons-le}
@@ -19,7 +19,7 @@ module _ {T : Type 0} where
   filter_map-live nodes (n ∷ rest) held = rw held.0 (ap (λ ns. n ∷ ns) (filter_map-live nodes rest held.1))
 
   -- the listing, where the lists are known
-  pub listing_is : (nodes : List (Node T)) (front back free : Option ℕ) (len made : ℕ) (live : List (LiveNode T)) (vacant : List ℕ) → IsLinked nodes front back free live vacant → len ≡ length live → listing nodes front len made ≡ record { nodes = live; spare = length vacant; made = made }
+  pub listing_is : (nodes : List (Node T)) (front back free : Option ℕ) (len made : ℕ) (live : List (LiveNode T)) (vacant : List ℕ) → IsLinked nodes front back free live vacant → len ≡ length live → listing_of nodes front len made ≡ record { nodes = live; spare = length vacant; made = made }
   listing_is nodes front back free len made live vacant linked count =
       let steps : len ≡ length (indices live) = count ∙ sym (length-map live (λ n. n.key.index)) in
       let walked : walk (after_at nodes) len front ≡ indices live = rw (steps, linked.at_front) (walk_chain (after_at nodes) (indices live) linked.forward) in
@@ -62,13 +62,24 @@ module _ {T : Type 0} where
   times-two (n ∷ rest) (suc i) (suc j) d order within same =
       omega (arith, times-two rest i j d (omega arith) (omega arith) same, times-cons-le (get_or rest j d).key.index n.key.index (indices rest))
 
-  module _ {nodes : List (Node T)} {front back free : Option ℕ} {len made : ℕ} {q : Listing T} (s : Stands nodes front back free len made) (is : listing nodes front len made ≡ q) where
+  module _ {nodes : List (Node T)} {front back free : Option ℕ} {len made : ℕ} {q : Listing T} (s : Stands nodes front back free len made) (is : listing_of nodes front len made ≡ q) where
     -- what the queue is seen as, by the lists of the invariant
     pub seen_as : q ≡ record { nodes = s.live; spare = length s.vacant; made = made }
     seen_as = sym is ∙ listing_is nodes front back free len made s.live s.vacant s.linked s.count
 
     pub nodes_are : q.nodes ≡ s.live
     nodes_are = ap (λ (x : Listing T). x.nodes) seen_as
+
+    -- walking back from the end gives the reverse, and walking the free chain gives the free nodes
+    pub walk-back : walk (before_at nodes) len back ≡ reverse (indices s.live)
+    walk-back =
+        let steps : len ≡ length (reverse (indices s.live)) = omega (arith, s.count, length-reverse (indices s.live), length-map s.live (λ (n : LiveNode T). n.key.index)) in
+        rw (steps, s.linked.at_back) (walk_chain (before_at nodes) (reverse (indices s.live)) s.linked.backward)
+
+    pub walk-free : walk (after_at nodes) (length nodes - len) free ≡ s.vacant
+    walk-free =
+        let steps : length nodes - len ≡ length s.vacant = omega (arith, s.count, s.linked.total) in
+        rw (steps, s.linked.at_free) (walk_chain (after_at nodes) s.vacant s.linked.chained)
 
     -- what holds of every queue
     pub IsSound-stands : IsSound q

@@ -7,8 +7,8 @@ use Rattle.seniority_queue.specs.declared.node.Node.{Node}
 
 module _ {T : Type 0} where
   -- the live nodes are those that the links lead to, from the front on
-  abbrev pub listing : List (Node T) → Option ℕ → ℕ → ℕ → Listing T
-  listing nodes front len made = record {
+  abbrev pub listing_of : List (Node T) → Option ℕ → ℕ → ℕ → Listing T
+  listing_of nodes front len made = record {
     nodes = filter_map (live_at nodes) (walk (after_at nodes) len front);
     spare = length nodes - len;
     made = made;

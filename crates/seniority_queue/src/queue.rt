@@ -1,4 +1,4 @@
-ghost use Rattle.std.specs.Prelude.{◌≡◌, ◌+◌, ◌^◌, ◌<◌, ◌≤◌, ◌-◌, ◌↔◌, length, max, take, drop, slice_get, Some, option_map, option_copied, IsTrue, IsOk, OnOk, OnErr, MatchOption};
+ghost use Rattle.std.specs.Prelude.{◌≡◌, ◌+◌, ◌^◌, ◌<◌, ◌≤◌, ◌-◌, ◌↔◌, length, max, take, drop, slice_get, Some, option_map, option_copied, IsTrue, IsOk, OnOk, OnErr};
 ghost use Rattle.std.specs.Option.{option_copied_mut};
 ghost use Rattle.std.specs.Borrow.{sem};
 ghost use Rattle.seniority_queue.specs.Listing.{empty_listing, get, IsLive, first_key, last_key, key_after, through, keeping, pushed, IsSound};
@@ -10,8 +10,12 @@ use basic_types::NoMemory;
 use std::alloc::Global;
 use std::marker::Model;
 
-/// A queue in order of seniority, seen as the list of its live nodes (oldest first), each with its key and its value, and
-/// the numbers `spare` and `made`.
+/// A queue in order of seniority, seen as the list of its live nodes, oldest first, each with its key and its value, and
+/// as two numbers: `spare`, how many more elements it takes without memory, and `made`, how many were ever put in.
+///
+/// The nodes stand in one vector, linked by index in both directions; those that are free form a chain through the same
+/// links. Every call takes constant time, but `cut_after` takes time for each element that it drops, and `reserve` for
+/// each node that it adds. Only `reserve` takes memory.
 #[derive(Drop)]
 pub struct Queue<T> {
     nodes: Vec<Node<T>>,
@@ -32,9 +36,9 @@ impl<T> Model for Queue<T> {
 
     ghost coded = { listing_code T.code };
 
-    ghost use Rattle.seniority_queue.specs.Stands.{listing, Stands};
+    ghost use Rattle.seniority_queue.specs.Stands.{listing_of, Stands};
 
-    ghost view = { λ s. listing s.nodes.items s.front s.len s.made };
+    ghost view = { λ s. listing_of s.nodes.items s.front s.len s.made };
 
     ghost invariant = { λ s. Stands s.nodes.items s.front s.back s.free s.len s.made };
 }
@@ -64,7 +68,9 @@ impl<T> Queue<T> {
         self.len
     }
 
-    /// Makes `spare` at least `n`, so that as many elements may be put in without memory. After an `Err` nothing changed.
+    /// Makes `spare` at least `n`, so that as many elements may be put in without memory.
+    ///
+    /// Errors: `NoMemory`, and then nothing has changed. It can't come where `spare` is at least `n` already.
     pub fn reserve(&mut self, n: u32) -> Result<(), NoMemory>
         requires { length self.old.nodes + n < 2 ^ 32 }
         ensures ok { OnOk result (self.new ≡ record self.old { spare = max self.old.spare n }) }
@@ -81,7 +87,9 @@ impl<T> Queue<T> {
         Ok(())
     }
 
-    /// Puts an element in at the end, as the youngest. It takes no memory.
+    /// Puts an element in at the end, as the youngest, and answers its key, whose name is `made` as it was.
+    ///
+    /// It takes no memory, but a spare node: there must be one, as after `reserve(1)`.
     pub fn push_back(&mut self, value: T) -> Key
     where
         T: Drop,
@@ -106,7 +114,7 @@ impl<T> Queue<T> {
         Key { index, name }
     }
 
-    /// Takes the oldest element out: None exactly where there is none.
+    /// Takes the oldest element out: None exactly where there is none. Its node is spare then.
     pub fn pop_front(&mut self) -> Option<T>
         ensures value { result ≡ option_map (λ n. n.value) (slice_get self.old.nodes 0) }
         ensures popped { self.new ≡ keeping self.old (drop 1 self.old.nodes) }
@@ -133,7 +141,8 @@ impl<T> Queue<T> {
         Some(vacate(&mut self.nodes, &mut self.free, index))
     }
 
-    /// Drops every element that is younger than the one with this key, the youngest first.
+    /// Drops every element that is younger than the one with this key, the youngest first. Their nodes are spare then, and
+    /// the keys of those that stay are as valid as before.
     pub fn cut_after(&mut self, key: Key)
     where
         T: Drop,

@@ -1,4 +1,4 @@
-use Rattle.std.proofs.Common.{◌≡◌, Some, option_copied, option_map, sym, ap, ◌∙◌}
+use Rattle.std.proofs.Common.{◌∙◌}
 use Rattle.seniority_queue.proofs.Stood.{IsSound-stands}
 use Rattle.seniority_queue.proofs.Seen.{after_found, after_inside}
 use Rattle.seniority_queue.proofs.queue.Queue.after.Goals as goal

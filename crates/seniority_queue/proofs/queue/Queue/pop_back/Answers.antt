@@ -1,4 +1,4 @@
-use Rattle.std.proofs.Common.{◌≡◌, ◌-◌, take, length, refl, ◌∙◌, arith}
+use Rattle.std.proofs.Common.{◌-◌, take, length, refl, ◌∙◌, arith}
 use Rattle.seniority_queue.specs.Listing.{keeping}
 use Rattle.seniority_queue.proofs.Nodes.{before_at-read}
 use Rattle.seniority_queue.proofs.Stood.{IsSound-stands}

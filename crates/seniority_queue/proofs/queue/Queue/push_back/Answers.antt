@@ -1,4 +1,4 @@
-use Rattle.std.proofs.Common.{◌≡◌, ◌+◌, Some, refl, ◌∙◌, arith}
+use Rattle.std.proofs.Common.{◌+◌, Some, refl, arith}
 use Rattle.seniority_queue.specs.Listing.{pushed}
 use Rattle.seniority_queue.proofs.Stood.{IsSound-stands}
 use Rattle.seniority_queue.proofs.Seen.{back_among, free_among, free_some, inside_among, inside_vacant}

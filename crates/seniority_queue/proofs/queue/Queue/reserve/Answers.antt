@@ -1,4 +1,4 @@
-use Rattle.std.proofs.Common.{◌≡◌, ◌+◌, ◌-◌, ◌^◌, ◌<◌, ◌≤◌, max, length, refl, ap, arith, length-append}
+use Rattle.std.proofs.Common.{◌≡◌, ◌+◌, ◌-◌, length, refl, ap, arith, length-append}
 use Rattle.seniority_queue.proofs.Stood.{nodes_are, IsSound-stands}
 use Rattle.seniority_queue.proofs.Leaves.{push_free-leaves}
 use Rattle.seniority_queue.proofs.queue.Queue.reserve.Goals as goal

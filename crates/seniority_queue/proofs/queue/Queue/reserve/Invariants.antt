@@ -1,4 +1,4 @@
-use Rattle.std.proofs.Common.{◌≡◌, ◌+◌, ◌-◌, ◌≤◌, length, max, vec_capacity}
+use Rattle.std.proofs.Common.{◌+◌, ◌-◌, ◌≤◌, length, max, vec_capacity}
 use Rattle.seniority_queue.proofs.Leaves.{Leaves}
 use Rattle.seniority_queue.proofs.queue.Queue.reserve.Given as goal
 

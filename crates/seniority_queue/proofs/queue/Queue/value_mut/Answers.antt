@@ -1,4 +1,4 @@
-use Rattle.std.proofs.Common.{refl, ap, ◌∙◌, arith}
+use Rattle.std.proofs.Common.{refl, ◌∙◌, arith}
 use Rattle.std.proofs.lemmas.Option.{slice_get_read}
 use Rattle.seniority_queue.proofs.Lent.{key_inside, key_node, key_value, rewrite-leaves}
 use Rattle.seniority_queue.proofs.queue.Queue.value_mut.Goals as goal
