@@ -1,0 +1,11 @@
+pub mod KeyLemmas
+pub mod Counts
+pub mod Chains
+pub mod Nodes
+pub mod Linked
+pub mod Stood
+pub mod Found
+pub mod Cut
+pub mod Seen
+pub mod Leaves
+pub mod Lent
