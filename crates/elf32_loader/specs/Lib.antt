@@ -2,3 +2,4 @@ pub mod FaultOf
 pub mod HeaderTable
 pub mod LoadedImage
 pub mod PageRanges
+pub mod SmallImage

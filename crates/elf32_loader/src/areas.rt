@@ -6,6 +6,7 @@ ghost use Rattle.guest_model.specs.AreaMap.{areas_bytes, IsLayout};
 ghost use Rattle.guest_model.specs.ImageFault.{is_bad};
 ghost use Rattle.elf32_loader.specs.PageRanges.{IsPageRange, IsRising, IsAreaOf, file_byte, byte_above, pages_bytes};
 
+use crate::address_space::PAGE;
 use crate::page_range::PageRange;
 use crate::segment::Segment;
 use guest_model::{Area, Bytes};
@@ -41,8 +42,8 @@ fn area_of(
     requires range { IsPageRange range }
     ensures { IfOk result (IsAreaOf (file_byte file.now segments.now) range) }
 {
-    let base = range.first * 4096;
-    let len = (range.end - range.first) as usize * 4096;
+    let base = (u64::from(range.first) * PAGE) as u32;
+    let len = (u64::from(range.end - range.first) * PAGE) as usize;
     let mut bytes = Bytes::from_vec(vec![in alloc; 0; len]?);
     for i in (0..segments.len()).rev() {
         copy_segment(file, &segments[i], base, &mut bytes);

@@ -7,15 +7,10 @@ ghost use Rattle.elf32_loader.specs.HeaderTable.{HasTable};
 
 use crate::fault::ImageFault;
 use crate::fields::{half_at, word_at};
+use crate::table::{ENTRY_SIZE, MOST_SEGMENTS};
 
 /// How many bytes the ELF header has.
 const HEADER_SIZE: usize = 52;
-
-/// How many bytes a program header has.
-const ENTRY_SIZE: u16 = 32;
-
-/// How many program headers an image has at most.
-const MOST_ENTRIES: u16 = 64;
 
 const CLASS_32: u8 = 1;
 
@@ -80,10 +75,10 @@ fn has_bad_table(bytes: &[u8]) -> bool
     requires { 52 ≤ length bytes.now }
     ensures value { result ≡ has_bad_table bytes.now }
 {
-    let count = half_at(bytes, 44);
-    let end = u64::from(word_at(bytes, 28)) + u64::from(ENTRY_SIZE) * u64::from(count);
-    half_at(bytes, 42) != ENTRY_SIZE
+    let start = word_at(bytes, 28) as usize;
+    let count = half_at(bytes, 44) as usize;
+    half_at(bytes, 42) as usize != ENTRY_SIZE
         || count == 0
-        || MOST_ENTRIES < count
-        || (bytes.len() as u64) < end
+        || MOST_SEGMENTS < count
+        || bytes.len() < start + ENTRY_SIZE * count
 }

@@ -4,14 +4,12 @@ ghost use Rattle.std.specs.Prelude.{◌≡◌, ◌^◌, ◌<◌, ◌≤◌};
 ghost use Rattle.guest_model.specs.Image.{last_end, heap_of};
 ghost use Rattle.elf32_loader.specs.PageRanges.{HasWholePages};
 
-use crate::segment::{PAGE, STACK_BASE, Segment};
+use crate::address_space::{ADDRESS_END, PAGE, STACK_BASE};
+use crate::segment::Segment;
 use guest_model::Heap;
 
 /// How many bytes the heap has where there is room for them: 4 MiB.
 const HEAP_SIZE: u64 = 0x40_0000;
-
-/// The first number that is no address.
-const ADDRESS_END: u64 = 1 << 32;
 
 /// The heap of an image with these segments. It starts on the page behind the last of them and ends at the stack, or
 /// behind the stack at 2^32, at the latest. Where there is no room for one it is empty at 0.

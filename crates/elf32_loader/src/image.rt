@@ -23,7 +23,7 @@ use std::alloc::{AllocError, Global};
 ///
 /// The answer is the image exactly: the entry, the bytes of memory, and the heap. Headers of other types than PT_LOAD,
 /// flags, alignments, physical addresses and sections are passed over. Memory is taken only once the image is known to
-/// have no fault: whole pages for the segments, the stack and the heap, and room for one short list.
+/// have no fault: whole pages for the segments, the stack and the heap, and room for their list.
 ///
 /// # Errors
 /// The first fault of the image in the order of `ImageFault`, or `NoMemory` where there is no room for an image that has
@@ -68,3 +68,6 @@ fn load_segments(
         heap,
     })
 }
+
+#[cfg(test)]
+mod tests;

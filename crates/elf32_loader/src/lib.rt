@@ -2,12 +2,14 @@
 //! "Object Files" and chapter 5 "Program Loading").
 #![tactic(auto)]
 
+mod address_space;
 mod areas;
 mod fault;
 mod fields;
 mod header;
 mod heap;
 mod image;
+pub mod laws;
 mod loaded;
 mod mapped_pages;
 mod page_range;

@@ -7,14 +7,16 @@ ghost use Rattle.guest_model.specs.Image.{last_end, is_mapped_page};
 ghost use Rattle.guest_model.specs.Segment.{has_page};
 ghost use Rattle.elf32_loader.specs.PageRanges.{has_range, in_range, IsPageRange, IsRising, HasWholePages};
 
+use crate::address_space::{PAGE, STACK_BASE, STACK_END};
 use crate::page_range::PageRange;
-use crate::segment::{PAGE, Segment};
+use crate::segment::Segment;
 use guest_model::Heap;
 use std::alloc::{AllocError, Global};
 
+/// The pages of the stack.
 const STACK: PageRange = PageRange {
-    first: 0x7FF00,
-    end: 0x80000,
+    first: (STACK_BASE / PAGE) as u32,
+    end: (STACK_END / PAGE) as u32,
 };
 
 /// The mapped pages: those that the segments, the stack and the heap touch.
@@ -76,7 +78,7 @@ fn heap_range(heap: &Heap) -> PageRange
 {
     let end = u64::from(heap.start) + u64::from(heap.size);
     PageRange {
-        first: heap.start / 4096,
+        first: (u64::from(heap.start) / PAGE) as u32,
         end: (end / PAGE) as u32,
     }
 }

@@ -3,6 +3,7 @@
 ghost use Rattle.std.specs.Prelude.{◌≡◌};
 ghost use Rattle.guest_model.specs.ImageFault.{ranges_meet};
 
+use crate::address_space::{ADDRESS_END, PAGE, STACK_BASE, STACK_END};
 use crate::page_range::PageRange;
 use std::marker::Model;
 
@@ -11,14 +12,6 @@ const PT_LOAD: u32 = 1;
 const PT_DYNAMIC: u32 = 2;
 
 const PT_INTERP: u32 = 3;
-
-/// How many bytes a page has.
-pub const PAGE: u64 = 4096;
-
-/// The first address of the stack, and the first one behind it.
-pub const STACK_BASE: u64 = 0x7FF0_0000;
-
-pub const STACK_END: u64 = 0x8000_0000;
 
 /// The part of a program header that the loader reads.
 #[derive(Clone, Copy)]
@@ -147,7 +140,7 @@ impl Segment {
         self.is_load()
             && (self.memory_size < self.file_size
                 || self.file_size > 0 && (file_length as u64) < file_end
-                || 1 << 32 < self.end())
+                || ADDRESS_END < self.end())
     }
 
     /// Both are loaded, and share a byte address.

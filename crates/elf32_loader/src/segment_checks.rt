@@ -8,14 +8,15 @@ ghost use Rattle.guest_model.specs.Segment.{is_dynamic, has_page};
 ghost use Rattle.std.specs.List.{list_any};
 ghost use Rattle.elf32_loader.specs.FaultOf.{Checks};
 
+use crate::address_space::{PAGE, STACK_BASE, STACK_END};
 use crate::fault::ImageFault;
-use crate::segment::{PAGE, STACK_BASE, STACK_END, Segment};
+use crate::segment::Segment;
 
 /// How many pages the segments and the stack touch at most, counted one by one.
 const MOST_PAGES: u64 = 8192;
 
 /// How many pages the stack has.
-const STACK_PAGES: u64 = 256;
+const STACK_PAGES: u64 = (STACK_END - STACK_BASE) / PAGE;
 
 /// The program headers have no fault, in a file of this length with this entry.
 pub fn check_segments(

@@ -7,11 +7,11 @@ ghost use Rattle.elf32_loader.specs.HeaderTable.{HasTable};
 use crate::fields::{half_at, word_at};
 use crate::segment::Segment;
 
-/// The program headers that an image may have at most.
+/// How many program headers an image has at most.
 pub const MOST_SEGMENTS: usize = 64;
 
 /// How many bytes a program header has.
-const ENTRY_SIZE: usize = 32;
+pub const ENTRY_SIZE: usize = 32;
 
 /// How many program headers the file has.
 pub fn segment_count(bytes: &[u8]) -> usize
