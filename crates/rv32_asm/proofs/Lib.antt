@@ -1,0 +1,2 @@
+pub mod FieldsOfWords
+pub mod ReadsBack

@@ -1,0 +1,8 @@
+//! Builds guest programs of RV32IM: words of instructions, an assembler with labels, and small executable images.
+#![tactic(auto)]
+
+
+mod formats;
+mod words;
+
+pub use words::encode;
