@@ -1,6 +1,6 @@
 -- The fields and the immediates of a word that was put together from them
-use Rattle.std.proofs.Common.{◌≡◌, ℕ, ◌+◌, ◌*◌, ◌<◌, ◌≤◌, ◌^◌, ℤ, pos, negsuc, arith, refl, ap, ◌∙◌}
-use Rattle.std.specs.Prelude.{◌/◌, ◌%◌, ◌≤ℤ◌}
+use Rattle.std.proofs.Common.{◌≡◌, ℕ, ◌+◌, ◌*◌, ◌<◌, ◌^◌, ℤ, pos, negsuc, arith, ap, ◌∙◌}
+use Rattle.std.specs.Prelude.{◌/◌, ◌%◌}
 use Rattle.std.proofs.lemmas.Int.{ints}
 use Rattle.std.proofs.lemmas.Bool.Decides.{nat_tests}
 use Rattle.guest_model.specs.Word.{field, sign_extend, word_of, opcode, rd, funct3, rs1, rs2, funct7, imm_i, imm_s, imm_b, imm_u, imm_j}
@@ -17,14 +17,14 @@ pub record HasFields (w o f d a b g : ℕ) : Type 0 where
 
 pub fields_of : (w o f d a b g : ℕ) → w ≡ r_type o f d a b g
     → o < 128 → f < 8 → d < 32 → a < 32 → b < 32 → g < 128 → HasFields w o f d a b g
-fields_of w o f d a b g e po pf pd pa pb pg = record
-  { opcode_is = omega arith
-  ; funct3_is = omega arith
-  ; rd_is = omega arith
-  ; rs1_is = omega arith
-  ; rs2_is = omega arith
-  ; funct7_is = omega arith
-  }
+fields_of w o f d a b g e po pf pd pa pb pg = record {
+  opcode_is = omega arith;
+  funct3_is = omega arith;
+  rd_is = omega arith;
+  rs1_is = omega arith;
+  rs2_is = omega arith;
+  funct7_is = omega arith;
+}
 
 -- each immediate is got back from the low bits of its word
 pub extend_short : (z : ℤ) (n : ℕ) → n ≡ field 11 0 (word_of z) → IsShortOffset z → sign_extend 12 n ≡ z
@@ -67,7 +67,7 @@ pub b_fields : (w o f a b n : ℕ) → w ≡ b_type o f a b n → o < 128 → f 
     → HasFields w o f (field 11 11 n + field 4 1 n * 2) a b (field 10 5 n + field 12 12 n * 2 ^ 6)
 b_fields w o f a b n e po pf pa pb =
     fields_of w o f (field 11 11 n + field 4 1 n * 2) a b (field 10 5 n + field 12 12 n * 2 ^ 6)
-      (omega arith) po pf (omega arith) pa pb (omega arith)
+    (omega arith) po pf (omega arith) pa pb (omega arith)
 
 -- the bits of a branch's offset, of which the lowest is 0
 low_13 : (n : ℕ) → n % 2 ≡ 0

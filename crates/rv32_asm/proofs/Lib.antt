@@ -1,2 +1,4 @@
 pub mod FieldsOfWords
+pub mod Loads
 pub mod ReadsBack
+pub mod WordBytes

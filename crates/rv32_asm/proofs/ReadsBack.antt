@@ -2,8 +2,7 @@
 use Rattle.std.proofs.Common.{◌≡◌, ℕ, ◌+◌, ◌*◌, ◌<◌, ◌≤◌, ◌^◌, ℤ, pos, negsuc, Option, Some, None, arith, refl, ap, ◌∙◌, add-zero}
 use Rattle.std.specs.Prelude.{◌%◌, ◌/◌, ◌==◌, if◌then◌else◌, option_map}
 use Rattle.std.proofs.lemmas.Int.{ints}
-use Rattle.std.proofs.lemmas.Bool.Decides.{nat_tests}
-use Rattle.guest_model.specs.Word.{field, sign_extend, word_of, opcode, rd, funct3, rs1, rs2, funct7, imm_i, imm_s, imm_b, imm_u, imm_j}
+use Rattle.guest_model.specs.Word.{field, word_of, opcode, rd, funct3, rs1, rs2, funct7, imm_i, imm_s, imm_b, imm_u, imm_j}
 use Rattle.guest_model.specs.InstructionTable.{row_of, instr, cond_of, load_width_of, store_width_of, imm_op_of, shift_of, reg_op_of}
 use Rattle.guest_model.specs.declared.instr.Instr.{Instr}
 use Rattle.guest_model.specs.declared.instr.Instr.TheVariants.{Upper, Jal, Jalr, Branch, Load, Store, OpImm, Op, Fence, Ecall, Ebreak}
@@ -19,7 +18,7 @@ use Rattle.guest_model.specs.declared.instr.ImmOp.{ImmOp}
 use Rattle.guest_model.specs.declared.instr.ImmOp.TheVariants as ImmOps
 use Rattle.guest_model.specs.declared.instr.RegOp.{RegOp}
 use Rattle.guest_model.specs.declared.instr.RegOp.TheVariants as RegOps
-use Rattle.rv32_asm.specs.Encoding.{r_type, i_type, s_type, b_type, u_type, j_type, upper_opcode, cond_code, load_code, store_code, imm_op_code, shift_kind, reg_op_code, reg_op_kind, encoding, IsInRange, IsShortOffset, IsShiftAmount, IsBranchOffset, IsJumpOffset}
+use Rattle.rv32_asm.specs.Encoding.{r_type, i_type, s_type, b_type, u_type, j_type, upper_opcode, cond_code, load_code, store_code, reg_op_code, reg_op_kind, encoding, IsInRange, IsShortOffset, IsShiftAmount, IsBranchOffset, IsJumpOffset}
 use Rattle.rv32_asm.proofs.FieldsOfWords.{HasFields, fields_of, i_fields, s_fields, b_fields, u_fields, j_fields, imm_i_of, imm_s_of, imm_b_of, imm_j_of}
 
 -- ---- the row that a word with these fields meets
@@ -106,8 +105,8 @@ jal_back w d z e pd h =
 jalr_back : (w d a : ℕ) (z : ℤ) → w ≡ i_type 0x67 0 d a (word_of z) → d < 32 → a < 32 → IsShortOffset z → instr w ≡ Some (Jalr d a z)
 jalr_back w d a z e pd pa h =
     jalr_row_is w d a z (word_of z % 2 ^ 5) (word_of z / 2 ^ 5 % 2 ^ 7)
-      (i_fields w 0x67 0 d a (word_of z) e (omega arith) (omega arith) pd pa)
-      (imm_i_of w 0x67 0 d a (word_of z) z e refl h (omega arith) (omega arith) pd pa)
+    (i_fields w 0x67 0 d a (word_of z) e (omega arith) (omega arith) pd pa)
+    (imm_i_of w 0x67 0 d a (word_of z) z e refl h (omega arith) (omega arith) pd pa)
 
 cond_below : (c : Cond) → cond_code c < 8
 cond_below c = elim c as (λ x. cond_code x < 8) [ Conds.Eq ↦ omega arith | _ ↦ omega arith ]
@@ -119,8 +118,8 @@ branch_back : (c : Cond) (w a b : ℕ) (z : ℤ) → w ≡ b_type 0x63 (cond_cod
 branch_back c w a b z e pa pb h =
     let n : ℕ = word_of z in
     branch_row_is w (cond_code c) a b z (field 11 11 n + field 4 1 n * 2) (field 10 5 n + field 12 12 n * 2 ^ 6)
-      (b_fields w 0x63 (cond_code c) a b n e (omega arith) (cond_below c) pa pb)
-      (imm_b_of w 0x63 (cond_code c) a b n z e refl h (omega arith) (cond_below c) pa pb)
+    (b_fields w 0x63 (cond_code c) a b n e (omega arith) (cond_below c) pa pb)
+    (imm_b_of w 0x63 (cond_code c) a b n z e refl h (omega arith) (cond_below c) pa pb)
     ∙ cond_back c a b z
 
 load_below : (x : LoadWidth) → load_code x < 8
@@ -132,8 +131,8 @@ load_width_back x d a z = elim x as (λ u. option_map (λ y. Load y d a z) (load
 load_back : (x : LoadWidth) (w d a : ℕ) (z : ℤ) → w ≡ i_type 0x03 (load_code x) d a (word_of z) → d < 32 → a < 32 → IsShortOffset z → instr w ≡ Some (Load x d a z)
 load_back x w d a z e pd pa h =
     load_row_is w (load_code x) d a z (word_of z % 2 ^ 5) (word_of z / 2 ^ 5 % 2 ^ 7)
-      (i_fields w 0x03 (load_code x) d a (word_of z) e (omega arith) (load_below x) pd pa)
-      (imm_i_of w 0x03 (load_code x) d a (word_of z) z e refl h (omega arith) (load_below x) pd pa)
+    (i_fields w 0x03 (load_code x) d a (word_of z) e (omega arith) (load_below x) pd pa)
+    (imm_i_of w 0x03 (load_code x) d a (word_of z) z e refl h (omega arith) (load_below x) pd pa)
     ∙ load_width_back x d a z
 
 store_below : (x : StoreWidth) → store_code x < 8
@@ -145,8 +144,8 @@ store_width_back x a b z = elim x as (λ u. option_map (λ y. Store y a b z) (st
 store_back : (x : StoreWidth) (w a b : ℕ) (z : ℤ) → w ≡ s_type 0x23 (store_code x) a b (word_of z) → a < 32 → b < 32 → IsShortOffset z → instr w ≡ Some (Store x a b z)
 store_back x w a b z e pa pb h =
     store_row_is w (store_code x) a b z (word_of z % 2 ^ 5) (word_of z / 2 ^ 5 % 2 ^ 7)
-      (s_fields w 0x23 (store_code x) a b (word_of z) e (omega arith) (store_below x) pa pb)
-      (imm_s_of w 0x23 (store_code x) a b (word_of z) z e refl h (omega arith) (store_below x) pa pb)
+    (s_fields w 0x23 (store_code x) a b (word_of z) e (omega arith) (store_below x) pa pb)
+    (imm_s_of w 0x23 (store_code x) a b (word_of z) z e refl h (omega arith) (store_below x) pa pb)
     ∙ store_width_back x a b z
 
 -- operations with an immediate of 12 bits
@@ -155,8 +154,8 @@ short_back : (op : ImmOp) (f w d a : ℕ) (z : ℤ) → ((b g : ℕ) → imm_row
 short_back op f w d a z r e pf pd pa h =
     let n : ℕ = word_of z in
     imm_row_is w f d a (n % 2 ^ 5) (n / 2 ^ 5 % 2 ^ 7) z
-      (i_fields w 0x13 f d a n e (omega arith) pf pd pa)
-      (imm_i_of w 0x13 f d a n z e refl h (omega arith) pf pd pa)
+    (i_fields w 0x13 f d a n e (omega arith) pf pd pa)
+    (imm_i_of w 0x13 f d a n z e refl h (omega arith) pf pd pa)
     ∙ r (n % 2 ^ 5) (n / 2 ^ 5 % 2 ^ 7)
 
 -- shifts, with funct7 g

@@ -1,6 +1,6 @@
 -- The words of instructions (RISC-V Unprivileged ISA, chapter RV32I, "Base Instruction Formats" and "Immediate Encoding
 -- Variants"; chapter "RV32/64G Instruction Set Listings")
-use Rattle.std.specs.Prelude.{◌≡◌, ℕ, ◌+◌, ◌*◌, ◌%◌, ◌^◌, ◌<◌, Bool, true, false, ℤ, pos, negsuc, ◌≤ℤ◌, IsTrue, MatchBool}
+use Rattle.std.specs.Prelude.{◌≡◌, ℕ, ◌+◌, ◌*◌, ◌%◌, ◌^◌, ◌<◌, Bool, true, false, ℤ, pos, negsuc, ◌≤ℤ◌, MatchBool}
 use Rattle.guest_model.specs.Word.{field, word_of}
 use Rattle.guest_model.specs.declared.instr.Instr.{Instr}
 use Rattle.guest_model.specs.declared.instr.Instr.TheVariants.{Upper, Jal, Jalr, Branch, Load, Store, OpImm, Op, Fence, Ecall, Ebreak}

@@ -22,11 +22,7 @@ pub fn i_type(opcode: u32, funct3: u32, rd: u8, rs1: u8, imm: u32) -> u32
     requires registers { (rd < 32) × (rs1 < 32) }
     ensures { result ≡ i_type opcode funct3 rd rs1 imm }
 {
-    opcode
-        + ((rd as u32) << 7)
-        + (funct3 << 12)
-        + ((rs1 as u32) << 15)
-        + ((imm & 0xFFF) << 20)
+    opcode + ((rd as u32) << 7) + (funct3 << 12) + ((rs1 as u32) << 15) + ((imm & 0xFFF) << 20)
 }
 
 pub fn s_type(opcode: u32, funct3: u32, rs1: u8, rs2: u8, imm: u32) -> u32
