@@ -1,4 +1,7 @@
 pub mod FieldsOfWords
+pub mod LeastPlaces
 pub mod Loads
+pub mod Programs
 pub mod ReadsBack
+pub mod UnboundLabels
 pub mod WordBytes

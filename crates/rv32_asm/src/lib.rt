@@ -1,9 +1,17 @@
 //! Builds guest programs of RV32IM: words of instructions, an assembler with labels, and small executable images.
 #![tactic(auto)]
 
+mod builder;
+mod constant;
+mod fault;
 mod formats;
 mod image;
+mod linker;
+mod parts;
 mod words;
 
+pub use builder::Assembler;
+pub use fault::AsmFault;
 pub use image::small_image;
+pub use parts::Label;
 pub use words::encode;
