@@ -3,5 +3,6 @@ pub mod LeastPlaces
 pub mod Loads
 pub mod Programs
 pub mod ReadsBack
+pub mod Regions
 pub mod UnboundLabels
 pub mod WordBytes

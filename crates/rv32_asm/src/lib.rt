@@ -1,6 +1,7 @@
 //! Builds guest programs of RV32IM: words of instructions, an assembler with labels, and small executable images.
 #![tactic(auto)]
 
+mod benchmark;
 mod builder;
 mod constant;
 mod fault;
@@ -10,6 +11,7 @@ mod linker;
 mod parts;
 mod words;
 
+pub use benchmark::generate;
 pub use builder::Assembler;
 pub use fault::AsmFault;
 pub use image::small_image;
