@@ -1,14 +1,16 @@
 -- The words of the generated program, region by region
-use Rattle.std.proofs.Common.{◌≡◌, ℕ, zero, suc, ◌+◌, ◌*◌, ◌<◌, ◌≤◌, Bool, true, false, List, [], ◌∷◌, ◌++◌, length, map, refl, sym, ap, ◌∙◌, arith, append-nil, append_assoc, add-zero, zero-add, length-append}
-use Rattle.std.specs.Prelude.{◌==◌, if◌then◌else◌, pos}
+use Rattle.std.proofs.Common.{◌≡◌, ℕ, zero, suc, ◌+◌, ◌*◌, ◌<◌, ◌≤◌, Bool, true, false, List, [], ◌∷◌, ◌++◌, length, map, refl, sym, ap, ◌∙◌, arith, append-nil, append_assoc, add-zero, zero-add, length-append, get_or, ◌^◌, subst, Result}
+use Rattle.std.specs.Prelude.{◌==◌, if◌then◌else◌, pos, IfOk, IsOkAnd}
 use Rattle.std.specs.List.{flat_map, range_with_len}
 use Rattle.std.proofs.lemmas.List.{map-append, length-map}
 use Rattle.std.proofs.lemmas.List.Concat.{flat_map-append}
 use Rattle.std.specs.Int.{w32, to_le_bytes}
+use Rattle.guest_model.specs.Image.{image}
 use Rattle.guest_model.specs.declared.instr.Instr.{Instr}
 use Rattle.rv32_asm.specs.Encoding.{encoding}
-use Rattle.rv32_asm.specs.Generated.{kind, turns, opening, original, endless, shortcut, closing, region, all_regions, prologue, epilogue, around, buffer_address, generated}
-use Rattle.rv32_asm.specs.SmallImage.{word_bytes, headers, size_of, small_image}
+use Rattle.rv32_asm.specs.Generated.{kind, turns, opening, original, endless, shortcut, closing, region, all_regions, prologue, epilogue, words_around, generated_words, zeros, generated}
+use Rattle.rv32_asm.specs.SmallImage.{word_bytes, headers, size_of, small_image, Holds}
+use Rattle.rv32_asm.proofs.Loads.{small_image_holds}
 
 flat_map-range_more : (f : ℕ → List Instr) (s n : ℕ) → flat_map f (range_with_len s (suc n)) ≡ flat_map f (range_with_len s n) ++ f (s + n)
 flat_map-range_more f s zero = append-nil (f s) ∙ ap f (sym (add-zero s))
@@ -63,31 +65,51 @@ in_pieces n ps ms es zs b0 b1 b2 b3 b4 is_n is_0 is_1 is_2 is_3 is_4 =
     ap (λ b. b ++ word_bytes es) (append_assoc h (word_bytes ps) (word_bytes ms)) ∙ append_assoc h (word_bytes ps ++ word_bytes ms) (word_bytes es) in
     is_4 ∙ ap (λ b. b ++ zs) (written ∙ grouped ∙ sym (ap (λ b. h ++ b) joined))
 
-sizes : (n : ℕ) (words : List ℕ) → n ≡ 4 * (6 + length words)
-    → n + 4 ≡ size_of (map encoding (prologue (0x10000 + n)) ++ words ++ map encoding epilogue) (0 ∷ 0 ∷ 0 ∷ 0 ∷ [])
-sizes n words is = omega (arith, length-append words (map encoding epilogue))
+-- prologue and epilogue round the words of all regions
+pub record HasPieces (n : ℕ) (ps words es : List ℕ) : Type 0 where
+  pub front : ps ≡ map encoding (prologue (0x10000 + n))
+  pub back : es ≡ map encoding epilogue
+  pub count : n ≡ 4 * (6 + length words)
 
-addresses : (n m k : ℕ) → m ≡ k → n ≡ 4 * (6 + m) → 0x10000 + n ≡ 0x10000 + 4 * (6 + k)
-addresses n m k e is = omega arith
+size_is : (n : ℕ) (ps words es : List ℕ) → HasPieces n ps words es → n + 4 ≡ size_of (ps ++ words ++ es) zeros
+size_is n ps words es h = omega (arith, length-append (ps ++ words) es, length-append ps words, ap length h.front, ap length h.back, h.count)
 
-pub generated_is : (number regions n : ℕ) (words b0 b1 b2 b3 b4 : List ℕ) → words ≡ map encoding (all_regions number regions) → n ≡ 4 * (6 + length words)
-    → b0 ≡ headers (n + 4)
-    → b1 ≡ b0 ++ word_bytes (map encoding (prologue (0x10000 + n)))
-    → b2 ≡ b1 ++ word_bytes words
-    → b3 ≡ b2 ++ word_bytes (map encoding epilogue)
-    → b4 ≡ b3 ++ 0 ∷ 0 ∷ 0 ∷ 0 ∷ []
-    → b4 ≡ generated number regions
-unfolding generated
-generated_is number regions n words b0 b1 b2 b3 b4 code is_n is_0 is_1 is_2 is_3 is_4 =
-    let body : List Instr = all_regions number regions in
-    let zs : List ℕ = 0 ∷ 0 ∷ 0 ∷ 0 ∷ [] in
-    let ps : List ℕ = map encoding (prologue (0x10000 + n)) in
-    let es : List ℕ = map encoding epilogue in
-    let same_length : length words ≡ length body = ap length code ∙ length-map body encoding in
-    let size : n + 4 ≡ size_of (ps ++ words ++ es) zs = sizes n words is_n in
-    let buffer : 0x10000 + n ≡ buffer_address body = addresses n (length words) (length body) same_length is_n in
-    in_pieces (n + 4) ps words es zs b0 b1 b2 b3 b4 size is_0 is_1 is_2 is_3 is_4
-    ∙ ap (λ ws. small_image (ps ++ ws ++ es) zs) code
-    ∙ ap (λ q. small_image (map encoding (prologue q) ++ map encoding body ++ es) zs) buffer
-    ∙ ap (λ ws. small_image (ws ++ es) zs) (sym (map-append encoding (prologue (buffer_address body)) body))
-    ∙ ap (λ ws. small_image ws zs) (sym (map-append encoding (prologue (buffer_address body) ++ body) epilogue))
+words_are : (n : ℕ) (ps words es : List ℕ) → HasPieces n ps words es → ps ++ words ++ es ≡ words_around words
+unfolding words_around
+words_are n ps words es h =
+    ap (λ xs. xs ++ words ++ es) (h.front ∙ ap (λ m. map encoding (prologue (0x10000 + m))) h.count)
+    ∙ ap (λ xs. map encoding (prologue (0x10000 + 4 * (6 + length words))) ++ words ++ xs) h.back
+
+pub around_is : (n : ℕ) (ps words es b0 b1 b2 b3 b4 : List ℕ) → HasPieces n ps words es
+    → b0 ≡ headers (n + 4) → b1 ≡ b0 ++ word_bytes ps → b2 ≡ b1 ++ word_bytes words → b3 ≡ b2 ++ word_bytes es → b4 ≡ b3 ++ zeros
+    → b4 ≡ small_image (words_around words) zeros
+around_is n ps words es b0 b1 b2 b3 b4 h is_0 is_1 is_2 is_3 is_4 =
+    in_pieces (n + 4) ps words es zeros b0 b1 b2 b3 b4 (size_is n ps words es h) is_0 is_1 is_2 is_3 is_4
+    ∙ ap (λ ws. small_image ws zeros) (words_are n ps words es h)
+
+-- ---- the image loads
+
+fits_append : (xs ys : List ℕ) → ((k : ℕ) → get_or xs k 0 < 2 ^ 32) → ((k : ℕ) → get_or ys k 0 < 2 ^ 32) → (k : ℕ) → get_or (xs ++ ys) k 0 < 2 ^ 32
+fits_append [] ys fx fy k = fy k
+fits_append (x ∷ xs) ys fx fy zero = fx 0
+fits_append (x ∷ xs) ys fx fy (suc k) = fits_append xs ys (λ i. fx (suc i)) fy k
+
+pub around_loads : (n : ℕ) (ps words es file : List ℕ) → HasPieces n ps words es → file ≡ small_image (words_around words) zeros
+    → ((k : ℕ) → get_or ps k 0 < 2 ^ 32) → ((k : ℕ) → get_or words k 0 < 2 ^ 32) → ((k : ℕ) → get_or es k 0 < 2 ^ 32) → n ≤ 1000000
+    → IsOkAnd (image file) (Holds (words_around words) zeros)
+around_loads n ps words es file h is fit_p fit_w fit_e small =
+    let fits : (k : ℕ) → get_or (ps ++ words ++ es) k 0 < 2 ^ 32 = fits_append (ps ++ words) es (fits_append ps words fit_p fit_w) fit_e in
+    let size : n + 4 ≡ size_of (ps ++ words ++ es) zeros = size_is n ps words es h in
+    let P : List ℕ → Type 0 = λ ws. IsOkAnd (image (small_image ws zeros)) (Holds ws zeros) in
+    let Q : List ℕ → Type 0 = λ b. IsOkAnd (image b) (Holds (words_around words) zeros) in
+    subst Q (sym is) (subst P (words_are n ps words es h) (small_image_holds (ps ++ words ++ es) zeros fits (omega arith) (omega arith)))
+
+-- the same, where the words of all regions are known
+pub generated_is : {E : Type 0} (number regions : ℕ) (words : List ℕ) (r : Result (List ℕ) E) → words ≡ map encoding (all_regions number regions)
+    → IfOk r (λ b. b ≡ small_image (words_around words) zeros) → IfOk r (λ b. b ≡ generated number regions)
+generated_is number regions words r e h = let P : List ℕ → Type 0 = λ ws. IfOk r (λ b. b ≡ small_image (words_around ws) zeros) in subst P e h
+
+pub generated_loads : {E : Type 0} (number regions : ℕ) (words : List ℕ) (r : Result (List ℕ) E) → words ≡ map encoding (all_regions number regions)
+    → IfOk r (λ b. IsOkAnd (image b) (Holds (words_around words) zeros)) → IfOk r (λ b. IsOkAnd (image b) (Holds (generated_words number regions) zeros))
+generated_loads number regions words r e h =
+    let P : List ℕ → Type 0 = λ ws. IfOk r (λ b. IsOkAnd (image b) (Holds (words_around ws) zeros)) in subst P e h

@@ -83,13 +83,17 @@ prologue buffer = constant 9 buffer ++ addi 8 0 (pos 0) ∷ []
 abbrev pub epilogue : List Instr
 epilogue = addi 10 0 (pos 0) ∷ call 93
 
--- the buffer of four bytes stands behind all instructions, of which prologue and epilogue have six
-abbrev pub buffer_address : List Instr → ℕ
-buffer_address body = base + 4 * (6 + length body)
+-- the words of the program with these regions; the buffer of four bytes stands behind them, of which prologue and
+-- epilogue have six
+unfoldable pub words_around : List ℕ → List ℕ
+words_around body = map encoding (prologue (base + 4 * (6 + length body))) ++ body ++ map encoding epilogue
 
--- the program with these regions
-abbrev pub around : List Instr → List Instr
-around body = prologue (buffer_address body) ++ body ++ epilogue
+abbrev pub generated_words : ℕ → ℕ → List ℕ
+generated_words number regions = words_around (map encoding (all_regions number regions))
 
-unfoldable pub generated : ℕ → ℕ → List ℕ
-generated number regions = small_image (map encoding (around (all_regions number regions))) (0 ∷ 0 ∷ 0 ∷ 0 ∷ [])
+-- the buffer
+abbrev pub zeros : List ℕ
+zeros = 0 ∷ 0 ∷ 0 ∷ 0 ∷ []
+
+abbrev pub generated : ℕ → ℕ → List ℕ
+generated number regions = small_image (generated_words number regions) zeros

@@ -1,83 +1,21 @@
 //! A program for benches: a row of regions.
 
-ghost use Rattle.std.specs.Prelude.{◌≡◌, ◌+◌, ◌*◌, ◌<◌, ◌≤◌, ◌++◌, All, length, map, vec_len, OnOk, IfOk};
+ghost use Rattle.std.specs.Prelude.{◌≡◌, ◌+◌, ◌*◌, ◌<◌, ◌≤◌, ◌++◌, ◌==◌, ◌^◌, ℕ, if◌then◌else◌, All, length, map, vec_len, slice_index, OnOk, IfOk, IsOkAnd};
 ghost use Rattle.rv32_asm.specs.Encoding.{encoding, IsInRange, IsShortOffset, IsBranchOffset, IsJumpOffset};
 ghost use Rattle.rv32_asm.specs.Constant.{upper_part};
-ghost use Rattle.rv32_asm.specs.Generated.{addi, turns, kind, opening, original, shortcut, closing, versions, region, all_regions, prologue, epilogue, generated};
+ghost use Rattle.guest_model.specs.Image.{image};
+ghost use Rattle.rv32_asm.specs.Generated.{addi, turns, kind, opening, original, shortcut, closing, versions, region, all_regions, prologue, epilogue, words_around, generated_words, zeros, generated};
+ghost use Rattle.rv32_asm.specs.SmallImage.{small_image, Holds};
 
 use crate::constant::{lower_part, upper_part};
 use crate::image::{BASE, begin_image, push_words};
+use crate::mnemonics::{A0, A1, A2, A7, S0, S1, T0, ZERO, addi, bne, jal, lui};
 use crate::words::encode;
 use guest_model::{Bytes, Cond, ImmOp, Instr, NoMemory, RegOp, StoreWidth, UpperOp};
 use std::alloc::Global;
 
-const ZERO: u8 = 0;
-
-const T0: u8 = 5;
-
-const S0: u8 = 8;
-
-const S1: u8 = 9;
-
-const A0: u8 = 10;
-
-const A1: u8 = 11;
-
-const A2: u8 = 12;
-
-const A7: u8 = 17;
-
 /// The words of the program before and behind its regions.
 const OUTSIDE_REGIONS: usize = 6;
-
-fn lui(rd: u8, value: u32) -> Instr
-    requires { rd < 32 }
-    ensures value { result ≡ Instr.Upper UpperOp.Lui rd (upper_part value) }
-    ensures range { IsInRange result }
-{
-    Instr::Upper {
-        op: UpperOp::Lui,
-        rd,
-        imm: upper_part(value),
-    }
-}
-
-fn addi(rd: u8, rs1: u8, imm: i32) -> Instr
-    requires registers { (rd < 32) × (rs1 < 32) }
-    requires immediate { IsShortOffset imm }
-    ensures value { result ≡ addi rd rs1 imm }
-    ensures range { IsInRange result }
-{
-    Instr::OpImm {
-        op: ImmOp::Add,
-        rd,
-        rs1,
-        imm,
-    }
-}
-
-fn bne(rs1: u8, rs2: u8, offset: i32) -> Instr
-    requires registers { (rs1 < 32) × (rs2 < 32) }
-    requires offset { IsBranchOffset offset }
-    ensures value { result ≡ Instr.Branch Cond.Ne rs1 rs2 offset }
-    ensures range { IsInRange result }
-{
-    Instr::Branch {
-        cond: Cond::Ne,
-        rs1,
-        rs2,
-        offset,
-    }
-}
-
-fn jal(rd: u8, offset: i32) -> Instr
-    requires register { rd < 32 }
-    requires offset { IsJumpOffset offset }
-    ensures value { result ≡ Instr.Jal rd offset }
-    ensures range { IsInRange result }
-{
-    Instr::Jal { rd, offset }
-}
 
 /// Adds the words of instructions.
 ///
@@ -178,6 +116,15 @@ fn kind(number: u32, index: u32) -> u32
     ((number as u64 + index as u64) % 4) as u32
 }
 
+/// What the fast version of a region answers.
+fn shortcut_sum(kind: u32, turns: u32) -> u32
+    requires { turns < 10064 }
+    ensures { result ≡ (if kind == 2 then 3 * turns + 1 else 3 * turns) }
+{
+    let sum = 3 * turns;
+    if kind == 2 { sum + 1 } else { sum }
+}
+
 /// The original, and the fast version behind it.
 fn push_versions(words: &mut Vec<u32>, kind: u32, turns: u32) -> Result<(), NoMemory>
     requires { turns < 10064 }
@@ -188,8 +135,7 @@ fn push_versions(words: &mut Vec<u32>, kind: u32, turns: u32) -> Result<(), NoMe
         return push(words, &[jal(ZERO, 0)]);
     }
     push(words, &original(turns, 20))?;
-    let sum = if kind == 2 { 3 * turns + 1 } else { 3 * turns };
-    push(words, &shortcut(sum))
+    push(words, &shortcut(shortcut_sum(kind, turns)))
 }
 
 fn push_region(words: &mut Vec<u32>, number: u32, index: u32) -> Result<(), NoMemory>
@@ -216,7 +162,8 @@ fn region_words(alloc: Global, number: u32, regions: u32) -> Result<Vec<u32>, No
 
 /// The address of the buffer into s1, and 0 into s0.
 fn prologue(buffer: u32) -> [u32; 3]
-    ensures { result ≡ map encoding (prologue buffer) }
+    ensures value { result ≡ map encoding (prologue buffer) }
+    ensures words { (k : ℕ) → slice_index result k < 2 ^ 32 }
 {
     [
         encode(lui(S1, buffer)),
@@ -227,13 +174,29 @@ fn prologue(buffer: u32) -> [u32; 3]
 
 /// Exit with 0.
 fn epilogue() -> [u32; 3]
-    ensures { result ≡ map encoding epilogue }
+    ensures value { result ≡ map encoding epilogue }
+    ensures words { (k : ℕ) → slice_index result k < 2 ^ 32 }
 {
     [
         encode(addi(A0, ZERO, 0)),
         encode(addi(A7, ZERO, 93)),
         encode(Instr::Ecall),
     ]
+}
+
+/// The image of the program with the words of its regions.
+fn image_around(alloc: Global, body: &[u32]) -> Result<Bytes, NoMemory>
+    requires { length body.now ≤ 100000 }
+    ensures value { IfOk result (λ b. b ≡ small_image (words_around body.now) zeros) }
+    ensures loads { IfOk result (λ b. IsOkAnd (image b) (Holds (words_around body.now) zeros)) }
+{
+    let code_len = 4 * (OUTSIDE_REGIONS + body.len()) as u32;
+    let mut bytes = begin_image(alloc, code_len + 4)?;
+    push_words(&mut bytes, &prologue(BASE + code_len))?;
+    push_words(&mut bytes, body)?;
+    push_words(&mut bytes, &epilogue())?;
+    bytes.extend_from_slice(&[0; 4])?;
+    Ok(Bytes::from_vec(bytes))
 }
 
 /// The image of a program with this many regions, of which the number chooses the lengths and the kinds.
@@ -246,14 +209,9 @@ fn epilogue() -> [u32; 3]
 /// `NoMemory` where there is no room for the image.
 pub fn generate(alloc: Global, number: u32, regions: u32) -> Result<Bytes, NoMemory>
     requires { regions ≤ 4096 }
-    ensures { IfOk result (λ b. b ≡ generated number regions) }
+    ensures value { IfOk result (λ b. b ≡ generated number regions) }
+    ensures loads { IfOk result (λ b. IsOkAnd (image b) (Holds (generated_words number regions) zeros)) }
 {
     let body = region_words(alloc, number, regions)?;
-    let code_len = 4 * (OUTSIDE_REGIONS + body.len()) as u32;
-    let mut bytes = begin_image(alloc, code_len + 4)?;
-    push_words(&mut bytes, &prologue(BASE + code_len))?;
-    push_words(&mut bytes, &body)?;
-    push_words(&mut bytes, &epilogue())?;
-    bytes.extend_from_slice(&[0; 4])?;
-    Ok(Bytes::from_vec(bytes))
+    image_around(alloc, &body)
 }

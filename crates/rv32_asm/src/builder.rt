@@ -4,22 +4,17 @@ ghost use Rattle.rv32_asm.specs.Constant.{AddsUp};
 ghost use Rattle.rv32_asm.specs.Encoding.{IsInRange};
 ghost use Rattle.rv32_asm.specs.Sound.{ItemFits};
 
-use crate::constant::{lower_part, upper_part};
+use crate::constant::lower_part;
 use crate::fault::AsmFault;
 use crate::image::SIZE_LIMIT;
+use crate::mnemonics::{A0, A7, ZERO, addi, lui};
 use crate::parts::{Binding, Item, Label};
-use guest_model::{Cond, ImmOp, Instr, UpperOp};
+use guest_model::{Cond, Instr};
 use std::alloc::Global;
 use std::marker::Model;
 
 /// The most labels of one assembler.
 const LABEL_LIMIT: usize = 16_777_216;
-
-/// x10, the first argument and the answer of a call.
-const A0: u8 = 10;
-
-/// x17, the number of a call.
-const A7: u8 = 17;
 
 /// The call that begins a region, and the call that ends it.
 const FAST_TRACK: i32 = 2000;
@@ -147,18 +142,8 @@ impl Assembler {
         ensures grows { Grows self.old (with_items self.old (constant_items rd value)) self.new result }
         ensures adds_up { AddsUp value }
     {
-        let upper = Instr::Upper {
-            op: UpperOp::Lui,
-            rd,
-            imm: upper_part(value),
-        };
-        let lower = Instr::OpImm {
-            op: ImmOp::Add,
-            rd,
-            rs1: rd,
-            imm: lower_part(value),
-        };
-        self.add(&[Item::Given(upper), Item::Given(lower)])
+        let lower = addi(rd, rd, lower_part(value));
+        self.add(&[Item::Given(lui(rd, value)), Item::Given(lower)])
     }
 
     /// Emits LUI and ADDI, which put the address of a label into a register.
@@ -180,11 +165,11 @@ impl Assembler {
         let branch = Item::BranchTo {
             cond: Cond::Ne,
             rs1: A0,
-            rs2: 0,
+            rs2: ZERO,
             to: fast.0,
         };
         self.add(&[
-            Item::Given(call_number(FAST_TRACK)),
+            Item::Given(addi(A7, ZERO, FAST_TRACK)),
             Item::Given(Instr::Ecall),
             branch,
         ])
@@ -195,7 +180,7 @@ impl Assembler {
         ensures { Grows self.old (with_items self.old close_items) self.new result }
     {
         self.add(&[
-            Item::Given(call_number(END_DUAL_TRACK)),
+            Item::Given(addi(A7, ZERO, END_DUAL_TRACK)),
             Item::Given(Instr::Ecall),
         ])
     }
@@ -219,17 +204,5 @@ impl Assembler {
             return Err(AsmFault::NoMemory);
         }
         Ok(Label(number as u32))
-    }
-}
-
-/// ADDI a7, x0, with the number of a call.
-fn call_number(number: i32) -> Instr
-    ensures { result ≡ Instr.OpImm ImmOp.Add 17 0 number }
-{
-    Instr::OpImm {
-        op: ImmOp::Add,
-        rd: A7,
-        rs1: 0,
-        imm: number,
     }
 }

@@ -8,7 +8,9 @@ mod fault;
 mod formats;
 mod image;
 mod linker;
+mod mnemonics;
 mod parts;
+mod range;
 mod words;
 
 pub use benchmark::generate;
@@ -16,4 +18,10 @@ pub use builder::Assembler;
 pub use fault::AsmFault;
 pub use image::small_image;
 pub use parts::Label;
+pub use range::is_in_range;
 pub use words::encode;
+
+#[cfg(test)]
+mod program_tests;
+#[cfg(test)]
+mod word_tests;

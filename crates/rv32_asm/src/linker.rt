@@ -1,12 +1,11 @@
 //! The end of assembling: labels become addresses and offsets, and the image is written.
 
 ghost use Rattle.std.specs.Prelude.{◌≡◌, ◌+◌, ◌*◌, ◌<◌, ◌≤◌, true, false, ◌++◌, length, None, IfSome, IfNone, IfOk, IsOkAnd, OnOk};
-ghost use Rattle.std.specs.Bool.{OnTrue};
 ghost use Rattle.guest_model.specs.Image.{image};
 ghost use Rattle.guest_model.specs.ImageFault.{Entry};
 ghost use Rattle.rv32_asm.specs.Assembly.{size};
-ghost use Rattle.rv32_asm.specs.Encoding.{IsBranchOffset, IsJumpOffset, IsInRange};
-ghost use Rattle.rv32_asm.specs.Resolved.{code_address, label_address, offset, is_branch_offset, is_jump_offset, is_far, instr_of, words, unbound_label, lesser, label_of, unbound_in, WritesCode, AllRead, Finishes, HoldsProgram};
+ghost use Rattle.rv32_asm.specs.Encoding.{IsInRange};
+ghost use Rattle.rv32_asm.specs.Resolved.{code_address, label_address, offset, is_far, instr_of, words, unbound_label, lesser, label_of, unbound_in, WritesCode, AllRead, Finishes, HoldsProgram};
 ghost use Rattle.rv32_asm.specs.SmallImage.{word_bytes};
 
 use crate::builder::Assembler;
@@ -14,6 +13,7 @@ use crate::constant::{lower_part, upper_part};
 use crate::fault::AsmFault;
 use crate::image::{BASE, begin_image};
 use crate::parts::{Binding, Item};
+use crate::range::{is_branch_offset, is_jump_offset};
 use crate::words::encode;
 use guest_model::{Bytes, ImmOp, Instr, UpperOp};
 
@@ -23,22 +23,6 @@ fn code_address(index: usize) -> u32
     ensures { result ≡ code_address index }
 {
     BASE + 4 * index as u32
-}
-
-/// Even and within 4 KiB: an offset that a branch can have.
-fn is_branch_offset(offset: i32) -> bool
-    ensures value { result ≡ is_branch_offset offset }
-    ensures range { OnTrue result (IsBranchOffset offset) }
-{
-    offset >= -4096 && offset <= 4095 && offset.cast_unsigned() % 2 == 0
-}
-
-/// Even and within 1 MiB: an offset that JAL can have.
-fn is_jump_offset(offset: i32) -> bool
-    ensures value { result ≡ is_jump_offset offset }
-    ensures range { OnTrue result (IsJumpOffset offset) }
-{
-    offset >= -1_048_576 && offset <= 1_048_575 && offset.cast_unsigned() % 2 == 0
 }
 
 /// The lesser of two numbers that may be absent.
