@@ -1,5 +1,5 @@
 -- What a call of the program answers, and what it leaves on `out` and `notes`
-use Rattle.std.specs.Prelude.{◌≡◌, ℕ, List, Option, Some}
+use Rattle.std.specs.Prelude.{◌≡◌, ℕ, List, Option, Some, None}
 use Rattle.speculation.specs.Record.{output_of}
 use Rattle.guest_model.specs.Image.{program_alone}
 use Rattle.guest_model.specs.declared.end.End.{End}
@@ -9,6 +9,7 @@ use Rattle.elf32_loader.specs.declared.fault.ImageFault.{ImageFault}
 use Rattle.fasttrack_program.specs.GuestStreams.{Sinks, GetsAll, GetsPart, StopsShort, end_of}
 use Rattle.fasttrack_program.specs.Plan.{Request, Plan, Refused, Runs, BadWords, LongImage, BadFile, LongInput, plan}
 use Rattle.fasttrack_program.specs.Reading.{IsTold}
+use Rattle.fasttrack_program.specs.AnswerLine.{line_of, Tells}
 use Rattle.fasttrack_program.specs.declared.answer.Answer.{Answer}
 use Rattle.fasttrack_program.specs.declared.answer.Answer.TheVariants.{Exited, Trapped, Spent, Usage, ReadFault, ImageTooLong, BadImage, InputTooLong, WriteFault, NoMemory}
 
@@ -62,3 +63,18 @@ IsRefusedEarly Usage = Unit {0}
 IsRefusedEarly ImageTooLong = Unit {0}
 IsRefusedEarly (BadImage f) = Unit {0}
 IsRefusedEarly _ = ⊥
+
+-- what is told of the image file that a request names
+abbrev pub told_of : (List ℕ → Option (List ℕ)) → Option Request → Option (List ℕ)
+told_of contents None = None
+told_of contents (Some r) = contents r.image
+
+-- The call served an answer, told it by its line on notes, and gives it, or WriteFault where the line of a guest's end
+-- could not be written.
+pub record IsAnswered (request : Option Request) (told_file told_input : Option (List ℕ)) (old new : Sinks) (result : Answer) : Type 0 where
+  pub said : Answer
+  pub between : Sinks
+  pub served : IsServed request told_file told_input old between said
+  pub out : new.out ≡ between.out
+  pub out_faults : new.out_faults ≡ between.out_faults
+  pub tells : Tells between.notes new.notes between.notes_faults new.notes_faults said result (line_of said)
