@@ -7,3 +7,7 @@ mod answer_line;
 mod fault_text;
 mod read;
 mod serve;
+mod top;
+
+pub use answer::{Answer, status};
+pub use top::plain_main;
