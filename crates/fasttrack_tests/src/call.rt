@@ -1,0 +1,83 @@
+//! One call of the program over files and streams in memory.
+
+use fasttrack_program::{Answer, plain_main};
+use guest_model::Bytes;
+use host_io::{MemoryFiles, MemorySink, MemorySource};
+use rv32_asm::small_image;
+use std::alloc::Global;
+use std::test::Fail;
+
+/// What a call is given: the image file `g`, the input, and which calls of which object fail.
+pub struct Given<'a> {
+    pub image: &'a [u8],
+    pub input: &'a [u8],
+    pub words: &'a [&'a str],
+    pub failing_files: &'a [u64],
+    pub failing_input: &'a [u64],
+    pub failing_out: &'a [u64],
+    pub failing_notes: &'a [u64],
+}
+
+/// What it answers, and what the sinks got.
+#[derive(Debug, Drop)]
+pub struct Got {
+    pub answer: Answer,
+    pub out: Vec<u8>,
+    pub notes: Vec<u8>,
+}
+
+/// A call of `alone g` with nothing that fails.
+pub fn plain<'a>(image: &'a [u8], input: &'a [u8]) -> Given<'a> {
+    Given {
+        image,
+        input,
+        words: &["alone", "g"],
+        failing_files: &[],
+        failing_input: &[],
+        failing_out: &[],
+        failing_notes: &[],
+    }
+}
+
+/// The small image of these words.
+pub fn image_of(alloc: Global, words: &[u32]) -> Result<Bytes, Fail> {
+    if words.len() > 1000 {
+        return Ok(Bytes::new(alloc));
+    }
+    Ok(small_image(alloc, words)?)
+}
+
+fn bytes_of(alloc: Global, from: &[u8]) -> Result<Bytes, Fail> {
+    let mut bytes = Bytes::new(alloc);
+    bytes.append(from)?;
+    Ok(bytes)
+}
+
+/// Calls the program.
+pub fn call(alloc: Global, given: &Given<'_>) -> Result<Got, Fail> {
+    let mut words = Vec::new(alloc);
+    for word in given.words {
+        words.push(String::from_str(alloc, word)?)?;
+    }
+    let mut files = MemoryFiles::new(Vec::from_slice(alloc, given.failing_files)?);
+    files.add(String::from_str(alloc, "g")?, bytes_of(alloc, given.image)?)?;
+    let mut input = MemorySource::new(
+        bytes_of(alloc, given.input)?,
+        Vec::from_slice(alloc, given.failing_input)?,
+    );
+    let mut out = MemorySink::new(alloc, 65536, Vec::from_slice(alloc, given.failing_out)?)?;
+    let mut notes = MemorySink::new(alloc, 65536, Vec::from_slice(alloc, given.failing_notes)?)?;
+    let answer = plain_main(
+        alloc,
+        words.as_slice(),
+        &mut files,
+        &mut input,
+        &mut out,
+        &mut notes,
+    );
+    Ok(Got {
+        answer,
+        out: Vec::from_slice(alloc, out.written())?,
+        notes: Vec::from_slice(alloc, notes.written())?,
+    })
+}

@@ -1,0 +1,97 @@
+//! Programs that run to an end of their own.
+
+use crate::call::{call, image_of, plain};
+use fasttrack_program::{Answer, status};
+use guest_model::Trap;
+use std::test::Fail;
+
+struct Row<'a> {
+    words: &'a [u32],
+    input: &'a [u8],
+    answer: Answer,
+    status: u8,
+    out: &'a [u8],
+    notes: &'a str,
+}
+
+/// A region whose original sums ten numbers to 55, with its fast version, and the exit with that sum.
+const SUM: [u32; 15] = [
+    0x7D00_0893, 0x0000_0073, 0x0005_1E63, 0x0000_0513, 0x00A0_0293, 0x0055_0533, 0xFFF2_8293, 0xFE02_9CE3,
+    0x00C0_006F, 0x0370_0513, 0x0000_0293, 0x7D10_0893, 0x0000_0073, 0x05D0_0893, 0x0000_0073,
+];
+
+/// The same region, and then two writes of the byte that the sum is.
+const SUM_TWICE: [u32; 24] = [
+    0x7D00_0893, 0x0000_0073, 0x0005_1E63, 0x0000_0513, 0x00A0_0293, 0x0055_0533, 0xFFF2_8293, 0xFE02_9CE3,
+    0x00C0_006F, 0x0370_0513, 0x0000_0293, 0x7D10_0893, 0x0000_0073, 0xFEA1_0FA3, 0x0010_0513, 0xFFF1_0593,
+    0x0010_0613, 0x0400_0893, 0x0000_0073, 0x0010_0513, 0x0000_0073, 0x0000_0513, 0x05D0_0893, 0x0000_0073,
+];
+
+/// Copies the input to the output, two bytes at a time.
+pub const ECHO: [u32; 13] = [
+    0x0000_0513, 0xFF01_0593, 0x0020_0613, 0x03F0_0893, 0x0000_0073, 0x0005_0C63, 0x0005_0613, 0x0010_0513,
+    0x0400_0893, 0x0000_0073, 0xFD9F_F06F, 0x05D0_0893, 0x0000_0073,
+];
+
+/// Writes the byte 13 (hexadecimal) to stream 1 and the byte 05 to stream 2.
+pub const TWO_STREAMS: [u32; 11] = [
+    0x0010_0513, 0x0001_05B7, 0x0010_0613, 0x0400_0893, 0x0000_0073, 0x0020_0513, 0x0015_8593, 0x0000_0073,
+    0x0000_0513, 0x05D0_0893, 0x0000_0073,
+];
+
+fn row<'a>(words: &'a [u32], input: &'a [u8], answer: Answer, status: u8, out: &'a [u8], notes: &'a str) -> Row<'a> {
+    Row { words, input, answer, status, out, notes }
+}
+
+fn check(rt: &HostRuntime, rows: &[Row<'_>]) -> Result<(), Fail> {
+    for row in rows {
+        let image = image_of(rt.alloc(), row.words)?;
+        let got = call(rt.alloc(), &plain(image.as_slice(), row.input))?;
+        assert!(rt; got.answer == row.answer);
+        assert!(rt; status(&got.answer) == row.status);
+        assert!(rt; got.out.as_slice() == row.out);
+        assert!(rt; got.notes.as_slice() == row.notes.as_bytes());
+    }
+    Ok(())
+}
+
+#[test]
+fn ends_of_their_own(rt: HostRuntime) -> Result<(), Fail> {
+    let exit = [0x0000_0513, 0x05D0_0893, 0x0000_0073];
+    let one_byte = [0x0010_0513, 0x0001_05B7, 0x0010_0613, 0x0400_0893, 0x0000_0073, 0x05D0_0893, 0x0000_0073];
+    let moved_break = [0x0000_0513, 0x0D60_0893, 0x0000_0073, 0x0105_0513, 0x0000_0073, 0x05D0_0893, 0x0000_0073];
+    let last_break = [
+        0x0000_0513, 0x0D60_0893, 0x0000_0073, 0x0040_02B7, 0x0055_0533, 0x0000_0073, 0x0015_0513, 0x0000_0073,
+        0x05D0_0893, 0x0000_0073,
+    ];
+    check(
+        &rt,
+        &[
+            row(&exit, b"", Answer::Exited(0), 0, b"", ""),
+            row(&one_byte, b"", Answer::Exited(1), 1, b"\x13", ""),
+            row(&SUM, b"", Answer::Exited(55), 55, b"", ""),
+            row(&SUM_TWICE, b"", Answer::Exited(0), 0, b"77", ""),
+            row(&ECHO, b"abc", Answer::Exited(0), 0, b"abc", ""),
+            row(&ECHO, b"", Answer::Exited(0), 0, b"", ""),
+            row(&TWO_STREAMS, b"", Answer::Exited(0), 0, b"\x13", "\x05"),
+            row(&moved_break, b"", Answer::Exited(69648), 16, b"", ""),
+            row(&last_break, b"", Answer::Exited(4263936), 0, b"", ""),
+        ],
+    )
+}
+
+#[test]
+fn traps(rt: HostRuntime) -> Result<(), Fail> {
+    check(
+        &rt,
+        &[
+            row(&[0x02C5_C533], b"", Answer::Trapped(Trap::Illegal, 0x10004), 240, b"", "fasttrack: trap illegal at 00010004\n"),
+            row(&[0x0000_1163], b"", Answer::Trapped(Trap::Illegal, 0x10004), 240, b"", "fasttrack: trap illegal at 00010004\n"),
+            row(&[0x0020_006F], b"", Answer::Trapped(Trap::Misaligned, 0x10000), 240, b"", "fasttrack: trap misaligned at 00010000\n"),
+            row(&[0x0000_2503], b"", Answer::Trapped(Trap::LoadUnmapped, 0x10000), 240, b"", "fasttrack: trap load at 00010000\n"),
+            row(&[0x0000_2023], b"", Answer::Trapped(Trap::StoreUnmapped, 0x10000), 240, b"", "fasttrack: trap store at 00010000\n"),
+            row(&[0x0010_0073], b"", Answer::Trapped(Trap::Breakpoint, 0x10000), 240, b"", "fasttrack: trap breakpoint at 00010000\n"),
+            row(&[0x0000_0067], b"", Answer::Trapped(Trap::FetchUnmapped, 0), 240, b"", "fasttrack: trap fetch at 00000000\n"),
+        ],
+    )
+}
