@@ -9,3 +9,4 @@ pub mod Cut
 pub mod Seen
 pub mod Leaves
 pub mod Lent
+pub mod Gone

@@ -53,6 +53,10 @@ module _ {T : Type 0} where
   abbrev pub IsLive : Listing T → Key → Type 0
   IsLive q key = IsSome (get q key)
 
+  -- no live node has this key
+  abbrev pub IsGone : Listing T → Key → Type 0
+  IsGone q key = get q key ≡ None
+
   abbrev pub first_key : List (LiveNode T) → Option Key
   first_key [] = None
   first_key (n ∷ rest) = Some n.key
@@ -71,6 +75,11 @@ module _ {T : Type 0} where
   abbrev pub through : Key → List (LiveNode T) → List (LiveNode T)
   through key [] = []
   through key (n ∷ rest) = n ∷ (if has_key key n then [] else through key rest)
+
+  -- the nodes that follow the one with this key
+  abbrev pub younger : Key → List (LiveNode T) → List (LiveNode T)
+  younger key [] = []
+  younger key (n ∷ rest) = if has_key key n then rest else younger key rest
 
   -- the queue with only these of its nodes left: each of the others is spare
   abbrev pub keeping : Listing T → List (LiveNode T) → Listing T

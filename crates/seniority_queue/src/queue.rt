@@ -1,7 +1,7 @@
-ghost use Rattle.std.specs.Prelude.{◌≡◌, ◌+◌, ◌^◌, ◌<◌, ◌≤◌, ◌-◌, ◌↔◌, length, max, take, drop, slice_get, Some, option_map, option_copied, IsTrue, IsOk, OnOk, OnErr};
+ghost use Rattle.std.specs.Prelude.{◌≡◌, ◌+◌, ◌^◌, ◌<◌, ◌≤◌, ◌-◌, ◌↔◌, length, max, take, drop, slice_get, Some, All, option_map, option_copied, IsTrue, IfSome, IsOk, OnOk, OnErr};
 ghost use Rattle.std.specs.Option.{option_copied_mut};
 ghost use Rattle.std.specs.Borrow.{sem};
-ghost use Rattle.seniority_queue.specs.Listing.{empty_listing, get, IsLive, first_key, last_key, key_after, through, keeping, pushed, IsSound};
+ghost use Rattle.seniority_queue.specs.Listing.{empty_listing, get, IsLive, IsGone, first_key, last_key, key_after, through, younger, keeping, pushed, IsSound};
 
 use crate::key::Key;
 use crate::links::{find, key_at, link_after, link_before, occupy, push_free, vacate};
@@ -97,6 +97,7 @@ impl<T> Queue<T> {
         requires made { self.old.made < 2 ^ 64 - 1 }
         ensures pushed { self.new ≡ pushed self.old result value }
         ensures name { result.name ≡ self.old.made }
+        ensures fresh { IsGone self.old result }
         ensures sound { IsSound self.new }
     {
         let name = self.made;
@@ -118,6 +119,7 @@ impl<T> Queue<T> {
     pub fn pop_front(&mut self) -> Option<T>
         ensures value { result ≡ option_map (λ n. n.value) (slice_get self.old.nodes 0) }
         ensures popped { self.new ≡ keeping self.old (drop 1 self.old.nodes) }
+        ensures gone { IfSome (first_key self.old.nodes) (IsGone self.new) }
         ensures sound { IsSound self.new }
     {
         let index = self.front?;
@@ -148,8 +150,10 @@ impl<T> Queue<T> {
         T: Drop,
         requires { IsLive self.old key }
         ensures cut { self.new ≡ keeping self.old (through key self.old.nodes) }
+        ensures gone { All (λ n. IsGone self.new n.key) (younger key self.old.nodes) }
         ensures sound { IsSound self.new }
     {
+        prove!(self.is_live(key));
         while self.after(key).is_some() {
             self.pop_back();
         }

@@ -1,8 +1,10 @@
-use Rattle.std.proofs.Common.{◌≡◌, ◌-◌, drop, slice_get, Some, option_map, refl, ◌∙◌, arith}
-use Rattle.seniority_queue.specs.Listing.{keeping}
+use Rattle.std.proofs.Common.{◌≡◌, ◌-◌, drop, slice_get, Some, option_map, IfSome, refl, sym, ap, subst, ◌∙◌, arith}
+use Rattle.seniority_queue.specs.Listing.{Listing, keeping, first_key, IsGone}
+use Rattle.seniority_queue.specs.Node.{key_of}
 use Rattle.seniority_queue.proofs.Nodes.{after_at-read}
 use Rattle.seniority_queue.proofs.Stood.{IsSound-stands}
-use Rattle.seniority_queue.proofs.Seen.{front_among, inside_among, after_among, holds_among}
+use Rattle.seniority_queue.proofs.Seen.{front_among, inside_among, after_among, holds_among, front_read}
+use Rattle.seniority_queue.proofs.Gone.{IsGone-drop}
 use Rattle.seniority_queue.proofs.Leaves.{Leaves, pop_front-leaves}
 use Rattle.seniority_queue.proofs.queue.Queue.pop_front.Given.{Over}
 use Rattle.seniority_queue.proofs.queue.Queue.pop_front.Goals.{After-vacate}
@@ -53,3 +55,13 @@ returns-clause-popped g c = (popped g c).0.listing_is
 
 pub returns-clause-sound : goal.returns-clause-sound
 returns-clause-sound g c = IsSound-stands (popped g c).0.stands refl
+
+pub returns-in_err-index-clause-gone : goal.returns-in_err-index-clause-gone
+returns-in_err-index-clause-gone g c =
+    let none = sym (front_read c.self.invariant c.self.view_is) ∙ ap (option_map (key_of c.self.inside.nodes.items)) c.in_err-index.was in
+    rw none tt
+
+pub returns-clause-gone : goal.returns-clause-gone
+returns-clause-gone g c =
+    let P : Listing g.row.T.Denot → Type 0 = λ q. IfSome (first_key c.args.self.now.nodes) (IsGone q) in
+    subst P (sym (popped g c).0.listing_is) (IsGone-drop c.args.self.now.nodes (IsSound-stands c.self.invariant c.self.view_is).indices_apart)

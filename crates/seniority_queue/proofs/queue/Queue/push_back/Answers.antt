@@ -1,7 +1,8 @@
-use Rattle.std.proofs.Common.{◌+◌, Some, refl, arith}
-use Rattle.seniority_queue.specs.Listing.{pushed}
+use Rattle.std.proofs.Common.{◌+◌, Some, refl, ap, arith}
+use Rattle.seniority_queue.specs.Listing.{Listing, pushed}
 use Rattle.seniority_queue.proofs.Stood.{IsSound-stands}
 use Rattle.seniority_queue.proofs.Seen.{back_among, free_among, free_some, inside_among, inside_vacant}
+use Rattle.seniority_queue.proofs.Gone.{IsGone-unmade}
 use Rattle.seniority_queue.proofs.Leaves.{Leaves, push-leaves}
 use Rattle.seniority_queue.proofs.queue.Queue.push_back.Given.{Over}
 use Rattle.seniority_queue.proofs.queue.Queue.push_back.Goals.{After-link_after}
@@ -31,3 +32,6 @@ returns-clause-pushed g c = (left g (goal.at.returns-clause-pushed g c).After-li
 
 pub returns-clause-sound : goal.returns-clause-sound
 returns-clause-sound g c = IsSound-stands (left g (goal.at.returns-clause-sound g c).After-link_after).stands refl
+
+pub returns-clause-fresh : goal.returns-clause-fresh
+returns-clause-fresh g c = IsGone-unmade c.args.self.now _ (IsSound-stands c.self.invariant c.self.view_is) (ap (λ (q : Listing g.row.T.Denot). q.made) c.self.view_is)
