@@ -1,4 +1,6 @@
+pub mod OnBuilder
 pub mod OnEntries
+pub mod OnFaces
 pub mod OnImage
 pub mod OnLoads
 pub mod OnPages

@@ -34,7 +34,7 @@ pub entry_at-there : (ix : List ℕ) (es : List Entry) (p place : ℕ) → slice
 unfolding entry_at
 entry_at-there ix es p place h = ap (λ (o : Option ℕ). option_and_then (λ k. slice_get es k) o) h
 
-entry_at-absent : (ix : List ℕ) (es : List Entry) (p : ℕ) → slice_get ix p ≡ None → entry_at ix es p ≡ None
+pub entry_at-absent : (ix : List ℕ) (es : List Entry) (p : ℕ) → slice_get ix p ≡ None → entry_at ix es p ≡ None
 unfolding entry_at
 entry_at-absent ix es p h = ap (λ (o : Option ℕ). option_and_then (λ k. slice_get es k) o) h
 
@@ -73,10 +73,10 @@ module _ (ix : List ℕ) (es : List Entry) (p place : ℕ) (x y : Entry) (finds 
   other_by : (q : ℕ) → (q ≡ p → ⊥) → (o : Option ℕ) → slice_get ix q ≡ o → entry_at ix (set es place y) q ≡ entry_at ix es q
   other_by q ne None h = entry_at-absent ix (set es place y) q h ∙ sym (entry_at-absent ix es q h)
   other_by q ne (Some k) h =
-    entry_at-there ix (set es place y) q k h
+      entry_at-there ix (set es place y) q k h
       ∙ slice_get-set_other es place k y (λ (s : k ≡ place).
-          let same : entry_at ix es q ≡ Some x = entry_at-there ix es q k h ∙ ap (λ (j : ℕ). slice_get es j) s ∙ at in
-          ne (sym (finds q x same) ∙ finds p x found))
+      let same : entry_at ix es q ≡ Some x = entry_at-there ix es q k h ∙ ap (λ (j : ℕ). slice_get es j) s ∙ at in
+      ne (sym (finds q x same) ∙ finds p x found))
       ∙ sym (entry_at-there ix es q k h)
 
   pub entry_at-set_other : (q : ℕ) → (q ≡ p → ⊥) → entry_at ix (set es place y) q ≡ entry_at ix es q
@@ -84,24 +84,26 @@ module _ (ix : List ℕ) (es : List Entry) (p place : ℕ) (x y : Entry) (finds 
 
   pub finds-set : Finds ix (set es place y)
   finds-set q e h = elim (cases_eq q p) [
-      inl same ↦
+    | inl same ↦
         let here : entry_at ix (set es place y) p ≡ Some e = ap (λ (r : ℕ). entry_at ix (set es place y) r) (sym same) ∙ h in
         let is : e ≡ y = cc (entry_at-set_same) in
         ap (λ (z : Entry). z.number) is ∙ number ∙ finds p x found ∙ sym same
-    | inr other ↦ finds q e (sym (entry_at-set_other q other) ∙ h) ]
+    | inr other ↦ finds q e (sym (entry_at-set_other q other) ∙ h)
+  ]
 
   pub replaces-set : (bytes : List ℕ) → page_bytes y.page ≡ bytes → Replaces (bytes_at ix es) (bytes_at ix (set es place y)) p bytes
-  replaces-set bytes h = record
-    { there = bytes_at-there ix (set es place y) p y entry_at-set_same ∙ ap Some h
-    ; elsewhere = λ q ne. bytes_at-same ix es (set es place y) q (entry_at-set_other q ne)
-    }
+  replaces-set bytes h = record {
+    there = bytes_at-there ix (set es place y) p y entry_at-set_same ∙ ap Some h;
+    elsewhere = λ q ne. bytes_at-same ix es (set es place y) q (entry_at-set_other q ne);
+  }
 
   pub bytes_at-set : page_bytes y.page ≡ page_bytes x.page → (q : ℕ) → bytes_at ix (set es place y) q ≡ bytes_at ix es q
   bytes_at-set h q = elim (cases_eq q p) [
-      inl same ↦
+    | inl same ↦
         ap (bytes_at ix (set es place y)) same ∙ bytes_at-there ix (set es place y) p y entry_at-set_same ∙ ap Some h
-          ∙ sym (bytes_at-there ix es p x found) ∙ ap (bytes_at ix es) (sym same)
-    | inr other ↦ bytes_at-same ix es (set es place y) q (entry_at-set_other q other) ]
+        ∙ sym (bytes_at-there ix es p x found) ∙ ap (bytes_at ix es) (sym same)
+    | inr other ↦ bytes_at-same ix es (set es place y) q (entry_at-set_other q other)
+  ]
 
   pub own_at-set_same : own_at ix (set es place y) p ≡ is_own y.page
   own_at-set_same = own_at-there ix (set es place y) p y entry_at-set_same
@@ -136,10 +138,11 @@ grows-trans may [] [] (z ∷ zs) g h = h
 grows-trans may [] (y ∷ ys) zs g h = absurd g
 grows-trans may (x ∷ xs) [] zs g h = absurd g
 grows-trans may (x ∷ xs) (y ∷ ys) [] g h = h
-grows-trans may (x ∷ xs) (y ∷ ys) (z ∷ zs) g h =
-    ( h.0 ∙ g.0
-    , λ own. elim (h.1 own) [ inl o ↦ g.1 o | inr m ↦ inr (ap may (sym g.0) ∙ m) ]
-    , grows-trans may xs ys zs g.2 h.2 )
+grows-trans may (x ∷ xs) (y ∷ ys) (z ∷ zs) g h = (
+  h.0 ∙ g.0,
+  λ own. elim (h.1 own) [ inl o ↦ g.1 o | inr m ↦ inr (ap may (sym g.0) ∙ m) ],
+  grows-trans may xs ys zs g.2 h.2,
+)
 
 pub grows-more : (may might : ℕ → Bool) (xs ys : List Entry) → ((p : ℕ) → may p ≡ true → might p ≡ true) → Grows may xs ys → Grows might xs ys
 grows-more may might [] [] h g = tt
@@ -165,5 +168,11 @@ own_count-grows may [] [] g = omega arith
 own_count-grows may [] (y ∷ ys) g = absurd g
 own_count-grows may (x ∷ xs) [] g = absurd g
 own_count-grows may (x ∷ xs) (y ∷ ys) g =
-    omega (arith, sum_by-cons (λ (e : Entry). one (is_own e.page)) y ys, sum_by-cons (λ (e : Entry). one (is_own e.page)) x xs,
-      sum_by-cons (λ (e : Entry). one (not (is_own e.page) && may e.number)) x xs, one_more (is_own y.page) (is_own x.page) (may x.number) g.1, own_count-grows may xs ys g.2)
+    omega (
+      arith,
+      sum_by-cons (λ (e : Entry). one (is_own e.page)) y ys,
+      sum_by-cons (λ (e : Entry). one (is_own e.page)) x xs,
+      sum_by-cons (λ (e : Entry). one (not (is_own e.page) && may e.number)) x xs,
+      one_more (is_own y.page) (is_own x.page) (may x.number) g.1,
+      own_count-grows may xs ys g.2,
+    )

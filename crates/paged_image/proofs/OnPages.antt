@@ -31,7 +31,7 @@ pub paged-none : (pages : ℕ → Option (List ℕ)) (q p : ℕ) → pages p ≡
 unfolding paged
 paged-none pages q p absent at = ap (λ (o : Option (List ℕ)). option_map (λ (bs : List ℕ). slice_index bs (q % 4096)) o) (ap pages at ∙ absent)
 
-same_page : (pages others : ℕ → Option (List ℕ)) (q : ℕ) → others (q / 4096) ≡ pages (q / 4096) → paged others q ≡ paged pages q
+pub same_page : (pages others : ℕ → Option (List ℕ)) (q : ℕ) → others (q / 4096) ≡ pages (q / 4096) → paged others q ≡ paged pages q
 unfolding paged
 same_page pages others q e = ap (λ (o : Option (List ℕ)). option_map (λ (bs : List ℕ). slice_index bs (q % 4096)) o) e
 
@@ -52,17 +52,17 @@ module _ (pages : ℕ → Option (List ℕ)) (table : IsTable pages) (a n : ℕ)
 
   each_byte : (k : ℕ) → k < n → paged pages (a + k) ≡ Some (slice_index bytes (a % 4096 + k))
   each_byte k l =
-    let page : (a + k) / 4096 ≡ a / 4096 = omega arith in
-    let offset : (a + k) % 4096 ≡ a % 4096 + k = omega arith in
-    paged-at pages (a + k) (a / 4096) bytes there page ∙ ap (λ (i : ℕ). Some (slice_index bytes i)) offset
+      let page : (a + k) / 4096 ≡ a / 4096 = omega arith in
+      let offset : (a + k) % 4096 ≡ a % 4096 + k = omega arith in
+      paged-at pages (a + k) (a / 4096) bytes there page ∙ ap (λ (i : ℕ). Some (slice_index bytes i)) offset
 
   pub mapped-page : mapped (paged pages) a n ≡ true
   mapped-page = mapped-all (paged pages) a n in_space (λ k l. ap is_some (each_byte k l))
 
   pub bytes_from-page : bytes_from (paged pages) a n ≡ slice_range bytes (a % 4096) (a % 4096 + n)
   bytes_from-page =
-    let whole : length bytes ≡ 4096 = table.whole (a / 4096) bytes there in
-    bytes_from-fill (paged pages) a n (slice_range bytes (a % 4096) (a % 4096 + n)) (range_length bytes (a % 4096) n (omega arith))
+      let whole : length bytes ≡ 4096 = table.whole (a / 4096) bytes there in
+      bytes_from-fill (paged pages) a n (slice_range bytes (a % 4096) (a % 4096 + n)) (range_length bytes (a % 4096) n (omega arith))
       (λ k l. range_at bytes (a % 4096) n k l ∙ sym (ap (λ (o : Option ℕ). unwrap_or o 0) (each_byte k l)))
 
 -- a map of pages in which one page has other bytes
@@ -84,19 +84,22 @@ write-page pages others a from bytes table there fits r = write-is (paged pages)
   where
     whole : length bytes ≡ 4096
     whole = table.whole (a / 4096) bytes there
+
     outside_at : (q : ℕ) → (q < a) ⊎ (a + length from ≤ q) → (q / 4096 ≡ a / 4096) ⊎ (q / 4096 ≡ a / 4096 → ⊥) → paged others q ≡ paged pages q
     outside_at q h (inl same) =
-      let o : (q % 4096 < a % 4096) ⊎ (a % 4096 + length from ≤ q % 4096) = elim h [ inl l ↦ inl (omega arith) | inr l ↦ inr (omega arith) ] in
-      paged-at others q (a / 4096) (overwritten bytes (a % 4096) from) r.there same
+        let o : (q % 4096 < a % 4096) ⊎ (a % 4096 + length from ≤ q % 4096) = elim h [ inl l ↦ inl (omega arith) | inr l ↦ inr (omega arith) ] in
+        paged-at others q (a / 4096) (overwritten bytes (a % 4096) from) r.there same
         ∙ ap Some (overwritten-outside bytes from (a % 4096) (q % 4096) (omega (arith, whole)) o)
         ∙ sym (paged-at pages q (a / 4096) bytes there same)
     outside_at q h (inr other) = same_page pages others q (r.elsewhere (q / 4096) other)
+
     outside : (q : ℕ) → (q < a) ⊎ (a + length from ≤ q) → paged others q ≡ paged pages q
     outside q h = outside_at q h (cases_eq (q / 4096) (a / 4096))
+
     inside : (q : ℕ) → a ≤ q → q < a + length from → paged others q ≡ Some (slice_index from (q - a))
     inside q l h =
-      let page : q / 4096 ≡ a / 4096 = omega arith in
-      let offset : q % 4096 ≡ a % 4096 + (q - a) = omega arith in
-      paged-at others q (a / 4096) (overwritten bytes (a % 4096) from) r.there page
+        let page : q / 4096 ≡ a / 4096 = omega arith in
+        let offset : q % 4096 ≡ a % 4096 + (q - a) = omega arith in
+        paged-at others q (a / 4096) (overwritten bytes (a % 4096) from) r.there page
         ∙ ap (λ (i : ℕ). Some (slice_index (overwritten bytes (a % 4096) from) i)) offset
         ∙ ap Some (overwritten-at bytes from (a % 4096) (q - a) (omega (arith, whole)) (omega arith))

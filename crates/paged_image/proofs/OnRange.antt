@@ -22,8 +22,9 @@ there_or_not (Some bytes) = inr (bytes, refl)
 pub byte-there : (t : PagedImage) (q : ℕ) → is_some (page_of t (q / 4096)) ≡ true → is_some (content t q) ≡ true
 unfolding content
 byte-there t q h = elim (there_or_not (page_of t (q / 4096))) [
-    inl e ↦ absurd (false≢true (sym (ap is_some e) ∙ h))
-  | inr e ↦ ap is_some (paged-at (page_of t) q (q / 4096) e.0 e.1 refl) ]
+  | inl e ↦ absurd (false≢true (sym (ap is_some e) ∙ h))
+  | inr e ↦ ap is_some (paged-at (page_of t) q (q / 4096) e.0 e.1 refl)
+]
 
 pub byte-absent : (t : PagedImage) (q p : ℕ) → page_of t p ≡ None → q / 4096 ≡ p → content t q ≡ None
 unfolding content
@@ -48,8 +49,9 @@ mapped-empty m a n h e = mapped-all m a n h (λ k l. absurd (omega arith))
 -- each address of a mapped range lies on a mapped page
 pub page-mapped : (t : PagedImage) (a n k : ℕ) → mapped (content t) a n ≡ true → k < n → is_some (page_of t ((a + k) / 4096)) ≡ true
 page-mapped t a n k h l = elim (there_or_not (page_of t ((a + k) / 4096))) [
-    inl e ↦ absurd (false≢true (sym (ap is_some (byte-absent t (a + k) ((a + k) / 4096) e refl)) ∙ mapped-at (content t) a n k h l))
-  | inr e ↦ ap is_some e.1 ]
+  | inl e ↦ absurd (false≢true (sym (ap is_some (byte-absent t (a + k) ((a + k) / 4096) e refl)) ∙ mapped-at (content t) a n k h l))
+  | inr e ↦ ap is_some e.1
+]
 
 get_or_left : (xs ys : List ℕ) (k : ℕ) → k < length xs → get_or (xs ++ ys) k 0 ≡ get_or xs k 0
 get_or_left xs ys k l = grind (arith, common_steps)
@@ -62,12 +64,12 @@ bytes_from-append m a i j = bytes_from-fill m a (i + j) (bytes_from m a i ++ byt
   where
     at : (k : ℕ) → k < i + j → (k < i) ⊎ (i ≤ k) → get_or (bytes_from m a i ++ bytes_from m (a + i) j) k 0 ≡ byte m (a + k)
     at k l (inl h) =
-      let n : length (bytes_from m a i) ≡ i = length-bytes_from m a i in
-      get_or_left (bytes_from m a i) (bytes_from m (a + i) j) k (omega arith) ∙ bytes_from-at m a i k 0 h
+        let n : length (bytes_from m a i) ≡ i = length-bytes_from m a i in
+        get_or_left (bytes_from m a i) (bytes_from m (a + i) j) k (omega arith) ∙ bytes_from-at m a i k 0 h
     at k l (inr h) =
-      let n : length (bytes_from m a i) ≡ i = length-bytes_from m a i in
-      let e : a + i + (k - i) ≡ a + k = omega arith in
-      get_or_right (bytes_from m a i) (bytes_from m (a + i) j) k i n h ∙ bytes_from-at m (a + i) j (k - i) 0 (omega arith) ∙ ap (byte m) e
+        let n : length (bytes_from m a i) ≡ i = length-bytes_from m a i in
+        let e : a + i + (k - i) ≡ a + k = omega arith in
+        get_or_right (bytes_from m a i) (bytes_from m (a + i) j) k i n h ∙ bytes_from-at m (a + i) j (k - i) 0 (omega arith) ∙ ap (byte m) e
 
 size_after : (i k : ℕ) (into piece : List ℕ) → i + k ≤ length into → length piece ≡ k → i + k ≤ length (put_mid i k into piece)
 size_after i k into piece h e = grind (arith, common_steps)
@@ -90,12 +92,14 @@ write-append m a xs ys = write-is m (write (write m a xs) (a + length xs) ys) a 
   where
     n : length (xs ++ ys) ≡ length xs + length ys
     n = length-append xs ys
+
     outside : (q : ℕ) → (q < a) ⊎ (a + length (xs ++ ys) ≤ q) → write (write m a xs) (a + length xs) ys q ≡ m q
     outside q (inl h) = write-outside (write m a xs) (a + length xs) ys q (inl (omega arith)) ∙ write-outside m a xs q (inl h)
     outside q (inr h) = write-outside (write m a xs) (a + length xs) ys q (inr (omega (arith, n))) ∙ write-outside m a xs q (inr (omega (arith, n)))
+
     inside : (q : ℕ) → a ≤ q → q < a + length (xs ++ ys) → (q < a + length xs) ⊎ (a + length xs ≤ q) → write (write m a xs) (a + length xs) ys q ≡ Some (slice_index (xs ++ ys) (q - a))
     inside q l r (inl h) =
-      write-outside (write m a xs) (a + length xs) ys q (inl h) ∙ write-inside m a xs q l h ∙ ap Some (sym (get_or_left xs ys (q - a) (omega arith)))
+        write-outside (write m a xs) (a + length xs) ys q (inl h) ∙ write-inside m a xs q l h ∙ ap Some (sym (get_or_left xs ys (q - a) (omega arith)))
     inside q l r (inr h) =
-      let e : q - (a + length xs) ≡ (q - a) - length xs = omega arith in
-      write-inside (write m a xs) (a + length xs) ys q h (omega (arith, n)) ∙ ap (λ (i : ℕ). Some (slice_index ys i)) e ∙ ap Some (sym (get_or_right xs ys (q - a) (length xs) refl (omega arith)))
+        let e : q - (a + length xs) ≡ (q - a) - length xs = omega arith in
+        write-inside (write m a xs) (a + length xs) ys q h (omega (arith, n)) ∙ ap (λ (i : ℕ). Some (slice_index ys i)) e ∙ ap Some (sym (get_or_right xs ys (q - a) (length xs) refl (omega arith)))

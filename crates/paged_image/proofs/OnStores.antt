@@ -60,26 +60,26 @@ owned_after s t a n f = own_count-grows (touches a n) s.entries.items t.entries.
 
 pub kept : (s t : PagedImage) (a : ℕ) (bs : List ℕ) (r : Result (Unit {0}) StoreFault) → Stores true (content s) (content t) a bs r → Marks (written_of s) (written_of t) a (length bs) r
     → Keeps (λ q. has (written_of s) (q / 4096)) (content s) (λ q. has (written_of t) (q / 4096)) (content t)
-kept s t a bs (Ok _) st m = record
-  { stays = λ q w. m (q / 4096) ∙ or_left (has (written_of s) (q / 4096)) (touches a (length bs) (q / 4096)) w
-  ; outside = λ q w. ap (λ (b : ByteMap). b q) st.1 ∙ write-outside (content s) a bs q (untouched q w (cases_lt q a) (cases_lt q (a + length bs)))
-  }
+kept s t a bs (Ok _) st m = record {
+  stays = λ q w. m (q / 4096) ∙ or_left (has (written_of s) (q / 4096)) (touches a (length bs) (q / 4096)) w;
+  outside = λ q w. ap (λ (b : ByteMap). b q) st.1 ∙ write-outside (content s) a bs q (untouched q w (cases_lt q a) (cases_lt q (a + length bs)));
+}
   where
     untouched : (q : ℕ) → has (written_of t) (q / 4096) ≡ false → (q < a) ⊎ (a ≤ q) → (q < a + length bs) ⊎ (a + length bs ≤ q) → (q < a) ⊎ (a + length bs ≤ q)
     untouched q w (inl l) _ = inl l
     untouched q w (inr l) (inr r) = inr r
     untouched q w (inr l) (inl r) =
-      let e : a + (q - a) ≡ q = omega arith in
-      let touched : touches a (length bs) (q / 4096) ≡ true = ap (λ (i : ℕ). touches a (length bs) (i / 4096)) (sym e) ∙ touches-at a (length bs) (q - a) (omega arith) in
-      absurd (false≢true (sym w ∙ m (q / 4096) ∙ or_right (has (written_of s) (q / 4096)) (touches a (length bs) (q / 4096)) touched))
-kept s t a bs (Err Unmapped) st m = record
-  { stays = λ q w. ap (λ (ws : List ℕ). has ws (q / 4096)) m ∙ w
-  ; outside = λ q w. ap (λ (b : ByteMap). b q) st.1
-  }
-kept s t a bs (Err NoMemory) st m = record
-  { stays = λ q w. m.0 (q / 4096) w
-  ; outside = λ q w. ap (λ (b : ByteMap). b q) st.2
-  }
+        let e : a + (q - a) ≡ q = omega arith in
+        let touched : touches a (length bs) (q / 4096) ≡ true = ap (λ (i : ℕ). touches a (length bs) (i / 4096)) (sym e) ∙ touches-at a (length bs) (q - a) (omega arith) in
+        absurd (false≢true (sym w ∙ m (q / 4096) ∙ or_right (has (written_of s) (q / 4096)) (touches a (length bs) (q / 4096)) touched))
+kept s t a bs (Err Unmapped) st m = record {
+  stays = λ q w. ap (λ (ws : List ℕ). has ws (q / 4096)) m ∙ w;
+  outside = λ q w. ap (λ (b : ByteMap). b q) st.1;
+}
+kept s t a bs (Err NoMemory) st m = record {
+  stays = λ q w. m.0 (q / 4096) w;
+  outside = λ q w. ap (λ (b : ByteMap). b q) st.2;
+}
 
 either_way : (old new may : Bool) → (old ≡ true → new ≡ true) → (may ≡ true → new ≡ true) → (new ≡ true → (old || may) ≡ true) → new ≡ (old || may)
 either_way true new may f g h = f refl
@@ -95,21 +95,21 @@ marks_ok s t a n f own p = either_way (has s.written p) (has t.written p) (touch
 pub stored_ok : (s t : PagedImage) (a : ℕ) (bs : List ℕ) → mapped (content s) a (length bs) ≡ true → content t ≡ write (content s) a bs → Advances (touches a (length bs)) s t
     → ((k : ℕ) → k < length bs → owns t ((a + k) / 4096) ≡ true) → Stored s t a bs (Ok tt)
 unfolding written_of
-stored_ok s t a bs there is f own = record
-  { stores = (there, is)
-  ; kept = kept s t a bs (Ok tt) (there, is) (marks_ok s t a (length bs) f own)
-  ; marks = marks_ok s t a (length bs) f own
-  ; owned = owned_after s t a (length bs) f
-  }
+stored_ok s t a bs there is f own = record {
+  stores = (there, is);
+  kept = kept s t a bs (Ok tt) (there, is) (marks_ok s t a (length bs) f own);
+  marks = marks_ok s t a (length bs) f own;
+  owned = owned_after s t a (length bs) f;
+}
 
 pub stored_refused : (s t : PagedImage) (a : ℕ) (bs : List ℕ) → mapped (content s) a (length bs) ≡ true → content t ≡ content s → Advances (touches a (length bs)) s t → Stored s t a bs (Err NoMemory)
 unfolding written_of
-stored_refused s t a bs there is f = record
-  { stores = (refl, there, is)
-  ; kept = kept s t a bs (Err NoMemory) (refl, there, is) (f.marked, f.marks)
-  ; marks = (f.marked, f.marks)
-  ; owned = owned_after s t a (length bs) f
-  }
+stored_refused s t a bs there is f = record {
+  stores = (refl, there, is);
+  kept = kept s t a bs (Err NoMemory) (refl, there, is) (f.marked, f.marks);
+  marks = (f.marked, f.marks);
+  owned = owned_after s t a (length bs) f;
+}
 
 -- a range on one own page
 pub mapped-own : (s : PagedImage) (a n : ℕ) → owns s (a / 4096) ≡ true → a % 4096 + n ≤ 4096 → mapped (content s) a n ≡ true
@@ -121,7 +121,7 @@ mapped-own s a n own fits =
 pub stored_in_page : (s t : PagedImage) (a : ℕ) (bs : List ℕ) → owns s (a / 4096) ≡ true → a % 4096 + length bs ≤ 4096 → content t ≡ write (content s) a bs → Advances (λ _. false) s t → Stored s t a bs (Ok tt)
 stored_in_page s t a bs own fits is f =
     stored_ok s t a bs (mapped-own s a (length bs) own fits) is (advances-more (λ _. false) (touches a (length bs)) s t (λ p h. absurd (false≢true h)) f)
-      (λ k l. let page : (a + k) / 4096 ≡ a / 4096 = omega arith in ap (owns t) page ∙ f.owns (a / 4096) own)
+    (λ k l. let page : (a + k) / 4096 ≡ a / 4096 = omega arith in ap (owns t) page ∙ f.owns (a / 4096) own)
 
 -- a write into an own page is always carried out where it fits
 pub put_done : (b own : Bool) (m : ℕ) (P : Type 0) → OnTrue b P → OnFalse b (own ≡ true → 4096 < m) → own ≡ true → m ≤ 4096 → P
@@ -133,13 +133,14 @@ write_more m n o a done k from fits first next =
     let size : length (take done from) ≡ done = front_length done from (omega arith) in
     let whole : take done from ++ take (done + k - done) (drop done from) ≡ take (done + k) from = joined done k from in
     next ∙ ap (λ (x : ByteMap). write x (a + done) (take (done + k - done) (drop done from))) first
-      ∙ ap (λ (i : ℕ). write (write m a (take done from)) (a + i) (take (done + k - done) (drop done from))) (sym size)
-      ∙ write-append m a (take done from) (take (done + k - done) (drop done from)) ∙ ap (write m a) whole
+    ∙ ap (λ (i : ℕ). write (write m a (take done from)) (a + i) (take (done + k - done) (drop done from))) (sym size)
+    ∙ write-append m a (take done from) (take (done + k - done) (drop done from)) ∙ ap (write m a) whole
   where
     front_length : (i : ℕ) (xs : List ℕ) → i ≤ length xs → length (take i xs) ≡ i
     front_length i xs h = grind (arith, common_steps)
+
     joined : (i k : ℕ) (xs : List ℕ) → take i xs ++ take (i + k - i) (drop i xs) ≡ take (i + k) xs
     joined i k xs =
-      let e : i + k - i ≡ k = omega arith in
-      ap (λ (j : ℕ). take i xs ++ take j (drop i xs)) e ∙ ap (λ (ys : List ℕ). take i xs ++ ys) (sym (drop-take i k xs))
+        let e : i + k - i ≡ k = omega arith in
+        ap (λ (j : ℕ). take i xs ++ take j (drop i xs)) e ∙ ap (λ (ys : List ℕ). take i xs ++ ys) (sym (drop-take i k xs))
         ∙ ap (λ (ys : List ℕ). ys ++ drop i (take (i + k) xs)) (sym (take-take i (i + k) xs (omega arith))) ∙ take-append-drop i (take (i + k) xs)

@@ -15,14 +15,16 @@ use Rattle.paged_image.specs.WriteSet.{has}
 -- where an element of the longer list stood
 at_insert : (xs : List ℕ) (i x k d : ℕ) → i ≤ length xs → k < length xs + 1 → ((k < i) × (get_or (insert xs i x) k d ≡ get_or xs k 0)) ⊎ (((k ≡ i) × (get_or (insert xs i x) k d ≡ x)) ⊎ ((i < k) × (get_or (insert xs i x) k d ≡ get_or xs (k - 1) 0)))
 at_insert xs i x k d le lt = elim (cases_lt k i) [
-    inl below ↦ inl (below, get_or-insert_below xs i x d k below le ∙ get_or_default xs k d 0 (omega arith))
+  | inl below ↦ inl (below, get_or-insert_below xs i x d k below le ∙ get_or_default xs k d 0 (omega arith))
   | inr above ↦ elim (cases_eq k i) [
-      inl same ↦ inr (inl (same, ap (λ (j : ℕ). get_or (insert xs i x) j d) same ∙ get_or-insert_at xs i x d le))
+    | inl same ↦ inr (inl (same, ap (λ (j : ℕ). get_or (insert xs i x) j d) same ∙ get_or-insert_at xs i x d le))
     | inr other ↦
         let past : i < k = omega (arith, other) in
         let back : k ≡ (k - 1) + 1 = omega arith in
         let there : get_or (insert xs i x) ((k - 1) + 1) d ≡ get_or xs (k - 1) d = get_or-insert_above xs i x d (k - 1) (omega arith) le in
-        inr (inr (past, ap (λ (j : ℕ). get_or (insert xs i x) j d) back ∙ there ∙ get_or_default xs (k - 1) d 0 (omega arith))) ] ]
+        inr (inr (past, ap (λ (j : ℕ). get_or (insert xs i x) j d) back ∙ there ∙ get_or_default xs (k - 1) d 0 (omega arith)))
+  ]
+]
 
 -- the new element stands between those before it and those after it
 rising_pair : (xs : List ℕ) (i x j k a b : ℕ) → j < k → k < length xs + 1 → i ≤ length xs
@@ -73,8 +75,9 @@ has-there xs i x q lt at = or_absorbed (has xs q) (x == q) (λ (e : (x == q) ≡
 -- a rising list does not fall
 rises_weakly : (xs : List ℕ) → AllPairs (λ p q. p < q) xs → (i j : ℕ) → i ≤ j → j < length xs → get_or xs i 0 ≤ get_or xs j 0
 rises_weakly xs rises i j le lt = elim (cases_eq i j) [
-    inl same ↦ omega (arith, ap (λ (k : ℕ). get_or xs k 0) same)
-  | inr other ↦ omega (arith, rises i j 0 (omega (arith, other)) lt) ]
+  | inl same ↦ omega (arith, ap (λ (k : ℕ). get_or xs k 0) same)
+  | inr other ↦ omega (arith, rises i j 0 (omega (arith, other)) lt)
+]
 
 -- what a binary search says of a rising list: the element is there, or the place is where it belongs
 pub search-there : (xs : List ℕ) (x i : ℕ) → AllPairs (λ p q. p < q) xs → IsBinarySearchResult (λ y. nat_cmp y x) xs (Ok i) → (i < length xs) × (get_or xs i 0 ≡ x)

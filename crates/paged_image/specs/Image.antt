@@ -30,4 +30,4 @@ unfolding content paged bytes_at entry_at
 content-bounded t q h =
     let past : length t.index.value.items ≤ q / 4096 = omega (arith, t.table) in
     ap (λ (o : Option ℕ). option_map (λ (bytes : List ℕ). slice_index bytes (q % 4096)) (option_map (λ (e : Entry). page_bytes e.page) (option_and_then (λ place. slice_get t.entries.items place) o)))
-      (slice_get_past t.index.value.items (q / 4096) past)
+    (slice_get_past t.index.value.items (q / 4096) past)

@@ -71,7 +71,10 @@ impl Builder {
         let bytes = area.bytes.as_slice();
         let first = area.base / 4096;
         for k in 0..bytes.len() / PAGE_BYTES {
-            self.push_page(first + k as u32, &bytes[k * PAGE_BYTES..k * PAGE_BYTES + PAGE_BYTES])?;
+            self.push_page(
+                first + k as u32,
+                &bytes[k * PAGE_BYTES..k * PAGE_BYTES + PAGE_BYTES],
+            )?;
         }
         Ok(())
     }

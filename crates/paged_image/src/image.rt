@@ -48,7 +48,11 @@ impl PagedImage {
         for area in areas {
             builder.push_area(area)?;
         }
-        let Builder { alloc, index, entries } = builder;
+        let Builder {
+            alloc,
+            index,
+            entries,
+        } = builder;
         Ok(PagedImage {
             alloc,
             index: Arc::new(alloc, index)?,
@@ -71,6 +75,9 @@ impl PagedImage {
     pub fn owned(&self) -> u64
         ensures { result ≡ owned_of self.now }
     {
-        self.entries.iter().filter(|entry| entry.page.is_own()).count() as u64
+        self.entries
+            .iter()
+            .filter(|entry| entry.page.is_own())
+            .count() as u64
     }
 }

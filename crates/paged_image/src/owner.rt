@@ -78,7 +78,11 @@ impl Owner {
         ensures ok { IfOk result (λ other. (is_own self.new ≡ false) × (is_own other ≡ false) × (page_bytes other ≡ page_bytes self.old)) }
         ensures err { OnErr result (is_own self.new ≡ true → is_own self.old ≡ true) }
     {
-        match mem::replace_with(self, alloc, |owner: Owner, alloc: Global| owner.into_shared(alloc)) {
+        match mem::replace_with(
+            self,
+            alloc,
+            |owner: Owner, alloc: Global| owner.into_shared(alloc),
+        ) {
             Some(other) => Ok(Owner::Shared(other)),
             None => Err(NoMemory),
         }

@@ -94,7 +94,6 @@ impl Memory for PagedImage {
     }
 
     ghost bounded = { content-bounded };
-
 }
 
 impl PagedImage {

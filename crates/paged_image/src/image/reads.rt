@@ -49,6 +49,17 @@ impl PagedImage {
         Some(entry.page.page().bytes.as_slice())
     }
 
+    /// The bytes of the page with this number, whose first address is `number * 4096`; None where it is unmapped.
+    pub fn page(&self, number: u32) -> Option<&[u8]>
+        ensures { option_copied result ≡ page_of self.now number }
+    {
+        if number < 1 << 20 {
+            self.page_bytes(number)
+        } else {
+            None
+        }
+    }
+
     /// The page is mapped.
     #[inline]
     pub(super) fn has_page(&self, number: u32) -> bool

@@ -47,7 +47,8 @@ fn share_all(alloc: Global, entries: &mut Vec<Entry>) -> Result<Vec<Entry>, NoMe
     ensures others { IfOk result (λ others. (map face others.items ≡ map face entries.old.items) × NoneOwn others.items) }
 {
     let mut others = Vec::with_capacity(alloc, entries.len())?;
-    for entry in entries.iter_mut() {
+    for place in 0..entries.len() {
+        let entry = &mut entries[place];
         let page = entry.page.share(alloc)?;
         others.push(Entry {
             number: entry.number,

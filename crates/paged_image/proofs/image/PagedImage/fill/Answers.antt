@@ -27,4 +27,4 @@ loop-done-preserved c =
     let into = c.loop-done.into in
     let fits : done + n ≤ length into = omega arith in
     filled_more (content c.args.self.now) c.args.a done n (done + n - done) into c.fill_from_page.new.into (omega arith) fits c.loop-done.invariant.1
-      (c.fill_from_page.ensures ∙ ap (bytes_from (content c.args.self.now) (c.args.a + done)) (part_length done n into fits))
+    (c.fill_from_page.ensures ∙ ap (bytes_from (content c.args.self.now) (c.args.a + done)) (part_length done n into fits))

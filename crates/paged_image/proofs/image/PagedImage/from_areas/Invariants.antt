@@ -7,5 +7,5 @@ use Rattle.paged_image.proofs.image.PagedImage.from_areas.Given as goal
 
 abbrev pub invariant-loop-area : goal.invariant-loop-area
 invariant-loop-area l =
-      (built l.builder ≡ areas_bytes (take l.area-index l.areas))
+    (built l.builder ≡ areas_bytes (take l.area-index l.areas))
     × ((k : ℕ) (d : Area) → l.area-index ≤ k → k < length l.areas → length l.builder.entries.items ≤ (slice_index_or l.areas k d).base / 4096)

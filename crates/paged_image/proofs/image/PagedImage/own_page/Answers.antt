@@ -36,11 +36,11 @@ invariant_of-self-2 c =
     let x = c.index_mut-entry.result.now in
     let y : Entry = record { number = x.number; page = c.make_own.new.self } in
     let at = read_entry s.entries.items c.in-Some.place x c.in-Some.ensures.within c.index_mut-entry.ensures.value in
-    record
-      { table = s.table
-      ; finds = finds-set s.index.value.items s.entries.items c.args.number c.in-Some.place x y s.finds c.in-Some.ensures.index at refl
-      ; own_written = own_written-own s c.insert.new.self c.args.number c.in-Some.place x y c.in-Some.ensures.index at refl c.in_ok-insert.ensures.ok
-      }
+    record {
+      table = s.table;
+      finds = finds-set s.index.value.items s.entries.items c.args.number c.in-Some.place x y s.finds c.in-Some.ensures.index at refl;
+      own_written = own_written-own s c.insert.new.self c.args.number c.in-Some.place x y c.in-Some.ensures.index at refl c.in_ok-insert.ensures.ok;
+    }
 
 -- the entry was shared
 was_shared : (x y : Entry) (Q : Type 0) → x ≡ y → is_own x.page ≡ false → is_own y.page ≡ true → Q
@@ -54,7 +54,7 @@ returns-in_err-make_own-clause-advances c =
     let at = read_entry s.entries.items c.in-Some.place x c.in-Some.ensures.within c.index_mut-entry.ensures.value in
     let same = read_same s.entries.items c.in-Some.place c.index.result.now x c.in-Some.ensures.within c.index.ensures c.index_mut-entry.ensures.value in
     advances-own s _ c.args.number c.in-Some.place x y c.in-Some.ensures.index at refl refl refl c.in_ok-insert.ensures.ok
-      (was_shared c.index.result.now x (is_own y.page ≡ true) same (sym c.if-is_own.ensures))
+    (was_shared c.index.result.now x (is_own y.page ≡ true) same (sym c.if-is_own.ensures))
 
 pub returns-clause-bytes : goal.returns-clause-bytes
 returns-clause-bytes c =
@@ -72,7 +72,7 @@ returns-clause-advances c =
     let at = read_entry s.entries.items c.in-Some.place x c.in-Some.ensures.within c.index_mut-entry.ensures.value in
     let same = read_same s.entries.items c.in-Some.place c.index.result.now x c.in-Some.ensures.within c.index.ensures c.index_mut-entry.ensures.value in
     advances-own s _ c.args.number c.in-Some.place x y c.in-Some.ensures.index at refl refl refl c.in_ok-insert.ensures.ok
-      (was_shared c.index.result.now x (is_own y.page ≡ true) same (sym c.if-is_own.ensures))
+    (was_shared c.index.result.now x (is_own y.page ≡ true) same (sym c.if-is_own.ensures))
 
 pub returns-clause-own : goal.returns-clause-own
 returns-clause-own c = λ _.

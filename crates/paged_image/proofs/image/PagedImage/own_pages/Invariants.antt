@@ -5,6 +5,6 @@ use Rattle.paged_image.proofs.image.PagedImage.own_pages.Given as goal
 
 abbrev pub invariant-loop-number : goal.invariant-loop-number
 invariant-loop-number l =
-      ((p : ℕ) → page_of l.self p ≡ page_of l.fn.self p)
+    ((p : ℕ) → page_of l.self p ≡ page_of l.fn.self p)
     × Advances (λ p. nat_le l.first p && nat_lt p l.end) l.fn.self l.self
     × ((p : ℕ) → l.first ≤ p → p < l.number → is_some (page_of l.fn.self p) ≡ true → owns l.self p ≡ true)

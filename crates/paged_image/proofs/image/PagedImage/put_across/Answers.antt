@@ -17,7 +17,7 @@ returns-then-from-eq0 c =
     let from = c.args.from.now in
     let none : from ≡ [] = nil_from_length from c.if-from-eq0.true in
     stored_ok s s c.args.a from (sym c.if-not-is_mapped.ensures) (sym (ap (write (content s) c.args.a) none ∙ write-nothing (content s) c.args.a)) (advances-same (touches c.args.a (length from)) s)
-      (λ k l. absurd (omega arith))
+    (λ k l. absurd (omega arith))
 
 pub overflow_add-last : goal.overflow_add-last
 overflow_add-last c =
@@ -35,7 +35,7 @@ returns-then-is_err c =
     let t = c.own_pages.new.self in
     let n = length c.args.from.now in
     stored_refused s t c.args.a c.args.from.now (sym c.if-not-is_mapped.ensures) (content-same s t c.own_pages.ensures.bytes)
-      (advances-more _ (touches c.args.a n) s t (λ p h. touches-range c.args.a n (c.args.a + (n - 1)) p (omega arith) refl h) c.own_pages.ensures.advances)
+    (advances-more _ (touches c.args.a n) s t (λ p h. touches-range c.args.a n (c.args.a + (n - 1)) p (omega arith) refl h) c.own_pages.ensures.advances)
 
 pub put_in_own_pages-requires-clause-space : goal.put_in_own_pages-requires-clause-space
 put_in_own_pages-requires-clause-space c = mapped-bound (content c.args.self.now) c.args.a (length c.args.from.now) (sym c.if-not-is_mapped.ensures)
@@ -53,9 +53,9 @@ returns c =
     let u = c.put_in_own_pages.new.self in
     let n = length c.args.from.now in
     stored_ok s u c.args.a c.args.from.now (sym c.if-not-is_mapped.ensures)
-      (c.put_in_own_pages.ensures.content ∙ ap (λ (m : ByteMap). write m c.args.a c.args.from.now) (content-same s t c.own_pages.ensures.bytes))
-      (advances-trans (touches c.args.a n) s t u
-        (advances-more _ (touches c.args.a n) s t (λ p h. touches-range c.args.a n (c.args.a + (n - 1)) p (omega arith) refl h) c.own_pages.ensures.advances)
-        (advances-more (λ _. false) (touches c.args.a n) t u (λ p h. absurd (false≢true h)) c.put_in_own_pages.ensures.advances))
-      (λ k l. c.put_in_own_pages.ensures.advances.owns ((c.args.a + k) / 4096)
-        (on_ok c.own_pages.result _ c.if-is_err.ensures.value c.own_pages.ensures.own ((c.args.a + k) / 4096) (omega arith) (omega arith) (page-mapped s c.args.a n k (sym c.if-not-is_mapped.ensures) l)))
+    (c.put_in_own_pages.ensures.content ∙ ap (λ (m : ByteMap). write m c.args.a c.args.from.now) (content-same s t c.own_pages.ensures.bytes))
+    (advances-trans (touches c.args.a n) s t u
+    (advances-more _ (touches c.args.a n) s t (λ p h. touches-range c.args.a n (c.args.a + (n - 1)) p (omega arith) refl h) c.own_pages.ensures.advances)
+    (advances-more (λ _. false) (touches c.args.a n) t u (λ p h. absurd (false≢true h)) c.put_in_own_pages.ensures.advances))
+    (λ k l. c.put_in_own_pages.ensures.advances.owns ((c.args.a + k) / 4096)
+    (on_ok c.own_pages.result _ c.if-is_err.ensures.value c.own_pages.ensures.own ((c.args.a + k) / 4096) (omega arith) (omega arith) (page-mapped s c.args.a n k (sym c.if-not-is_mapped.ensures) l)))

@@ -27,11 +27,11 @@ invariant_of-self c =
     let x = c.index_mut-entry.result.now in
     let y : Entry = record { number = x.number; page = c.overwrite.new.self } in
     let at = read_entry s.entries.items c.in-Some.place x c.in-Some.ensures.within c.index_mut-entry.ensures.value in
-    record
-      { table = s.table
-      ; finds = finds-set s.index.value.items s.entries.items (c.args.a / 4096) c.in-Some.place x y s.finds c.in-Some.ensures.index at refl
-      ; own_written = own_written-put s c.in-Some.place x y at refl c.overwrite.ensures.own
-      }
+    record {
+      table = s.table;
+      finds = finds-set s.index.value.items s.entries.items (c.args.a / 4096) c.in-Some.place x y s.finds c.in-Some.ensures.index at refl;
+      own_written = own_written-put s c.in-Some.place x y at refl c.overwrite.ensures.own;
+    }
 
 -- by the answer of the write into the page
 done_by : (b : Bool) (s t : PagedImage) (a : ℕ) (from : List ℕ) (was : Bool) (new old : List ℕ) (Q : Type 0) → b ≡ was → owns s (a / 4096) ≡ was → a % 4096 + length from ≤ 4096
@@ -48,8 +48,8 @@ returns-clause-done c =
     let at = read_entry s.entries.items c.in-Some.place x c.in-Some.ensures.within c.index_mut-entry.ensures.value in
     let fits : c.args.a % 4096 + length c.args.from.now ≤ 4096 = omega arith in
     done_by c.overwrite.result s _ c.args.a c.args.from.now (is_own x.page) (page_bytes y.page) (page_bytes x.page) (y.page ≡ x.page) c.overwrite.ensures.answer
-      (owns-at s (c.args.a / 4096) c.in-Some.place x c.in-Some.ensures.index at) fits c.overwrite.ensures.written
-      (λ h. content-put s _ (c.args.a / 4096) c.in-Some.place x y c.in-Some.ensures.index at refl refl refl c.args.a c.args.from.now refl fits h)
+    (owns-at s (c.args.a / 4096) c.in-Some.place x c.in-Some.ensures.index at) fits c.overwrite.ensures.written
+    (λ h. content-put s _ (c.args.a / 4096) c.in-Some.place x y c.in-Some.ensures.index at refl refl refl c.args.a c.args.from.now refl fits h)
 
 why_by : (b was own : Bool) (Q : Type 0) → b ≡ was → own ≡ was → OnFalse b (own ≡ true → Q)
 why_by true was own Q is same = tt
@@ -61,7 +61,7 @@ returns-clause-why c =
     let x = c.index_mut-entry.result.now in
     let at = read_entry s.entries.items c.in-Some.place x c.in-Some.ensures.within c.index_mut-entry.ensures.value in
     why_by c.overwrite.result (is_own x.page) (owns s (c.args.a / 4096)) (4096 < c.args.a % 4096 + length c.args.from.now) c.overwrite.ensures.answer
-      (owns-at s (c.args.a / 4096) c.in-Some.place x c.in-Some.ensures.index at)
+    (owns-at s (c.args.a / 4096) c.in-Some.place x c.in-Some.ensures.index at)
 
 pub returns-clause-advances : goal.returns-clause-advances
 returns-clause-advances c =

@@ -22,7 +22,8 @@ loop-done-preserved c =
     let size = part_length done n from fits in
     let own : owns l ((c.args.a + done) / 4096) ≡ true = c.loop-done.invariant.2.owns ((c.args.a + done) / 4096) (c.requires.own done (omega arith)) in
     let put = put_done c.put_in_own_page.result (owns l ((c.args.a + done) / 4096)) ((c.args.a + done) % 4096 + length (take (done + n - done) (drop done from))) _
-      c.put_in_own_page.ensures.done c.put_in_own_page.ensures.why own (omega (arith, size)) in
-    ( fits
-    , write_more (content s) (content l) (content c.put_in_own_page.new.self) c.args.a done n from fits c.loop-done.invariant.1 put.2
-    , advances-trans (λ _. false) s l c.put_in_own_page.new.self c.loop-done.invariant.2 c.put_in_own_page.ensures.advances )
+    c.put_in_own_page.ensures.done c.put_in_own_page.ensures.why own (omega (arith, size)) in (
+      fits,
+      write_more (content s) (content l) (content c.put_in_own_page.new.self) c.args.a done n from fits c.loop-done.invariant.1 put.2,
+      advances-trans (λ _. false) s l c.put_in_own_page.new.self c.loop-done.invariant.2 c.put_in_own_page.ensures.advances,
+    )

@@ -9,7 +9,7 @@ invariant_of-self-in-Err c =
     let xs = c.self.inside.pages.items in
     let at = search-absent xs c.args.page c.in-Err.at c.self.invariant (rw c.deref.ensures.value at c.in-Err.ensures.position) in
     let rises : AllPairs (λ p q. p < q) c.insert.new.self.items =
-        subst (λ (ys : List ℕ). AllPairs (λ p q. p < q) ys) (sym c.in_ok-insert-in-Err.ensures.items) (rises-insert xs c.in-Err.at c.args.page at.0 c.self.invariant at.1 at.2) in
+    subst (λ (ys : List ℕ). AllPairs (λ p q. p < q) ys) (sym c.in_ok-insert-in-Err.ensures.items) (rises-insert xs c.in-Err.at c.args.page at.0 c.self.invariant at.1 at.2) in
     rises
 
 pub returns-in-Ok-clause-ok : goal.returns-in-Ok-clause-ok
