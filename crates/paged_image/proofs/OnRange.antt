@@ -9,11 +9,12 @@ use Rattle.std.proofs.lemmas.List.{take_all}
 use borrow.Rule.Slice.PartMut.{put_mid}
 use Rattle.guest_model.specs.ByteMap.{ByteMap, byte, mapped, bytes_from, write}
 use Rattle.guest_model.proofs.OnByteMap.{mapped-all, mapped-absent, mapped-at, mapped-bound, bytes_from-fill, bytes_from-at, length-bytes_from, write-is, write-inside, write-outside}
-use Rattle.paged_image.specs.Pages.{paged}
-use Rattle.paged_image.specs.Image.{content}
+use Rattle.paged_image.specs.Pages.{paged, IsPage, LacksPage}
+use Rattle.paged_image.specs.Image.{content, content-bounded}
 use Rattle.paged_image.specs.Changes.{page_of}
 use Rattle.paged_image.specs.declared.image.PagedImage.{PagedImage}
-use Rattle.paged_image.proofs.OnPages.{paged-at, paged-none}
+use Rattle.paged_image.proofs.OnPages.{IsTable, paged-at, paged-none}
+use Rattle.paged_image.proofs.OnImage.{table_of}
 
 there_or_not : (o : Option (List ℕ)) → (o ≡ None) ⊎ ((bytes : List ℕ) × (o ≡ Some bytes))
 there_or_not None = inl refl
@@ -103,3 +104,22 @@ write-append m a xs ys = write-is m (write (write m a xs) (a + length xs) ys) a 
     inside q l r (inr h) =
         let e : q - (a + length xs) ≡ (q - a) - length xs = omega arith in
         write-inside (write m a xs) (a + length xs) ys q h (omega (arith, n)) ∙ ap (λ (i : ℕ). Some (slice_index ys i)) e ∙ ap Some (sym (get_or_right xs ys (q - a) (length xs) refl (omega arith)))
+
+-- ---- a whole page
+
+pub page-some : (t : PagedImage) (number : ℕ) (bytes : List ℕ) → page_of t number ≡ Some bytes → IsPage (content t) number bytes
+unfolding content
+page-some t number bytes h = record
+  { below = (table_of t).below number bytes h
+  ; count = (table_of t).whole number bytes h
+  ; each = λ k l.
+      let page : (number * 4096 + k) / 4096 ≡ number = omega arith in
+      let offset : (number * 4096 + k) % 4096 ≡ k = omega arith in
+      paged-at (page_of t) (number * 4096 + k) number bytes h page ∙ ap (λ (i : ℕ). Some (slice_index bytes i)) offset
+  }
+
+pub page-none : (t : PagedImage) (number : ℕ) → page_of t number ≡ None → LacksPage (content t) number
+page-none t number h k l = byte-absent t (number * 4096 + k) number h (omega arith)
+
+pub page-past : (t : PagedImage) (number : ℕ) → 1048576 ≤ number → LacksPage (content t) number
+page-past t number h k l = content-bounded t (number * 4096 + k) (omega arith)

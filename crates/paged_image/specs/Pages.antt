@@ -1,5 +1,5 @@
 -- Pages of an image: an index from page numbers to places, and the entries at these places
-use Rattle.std.specs.Prelude.{◌≡◌, ℕ, ◌+◌, ◌*◌, ◌/◌, ◌%◌, ◌<◌, Bool, true, false, ◌&&◌, nat_le, nat_lt, not, List, length, slice_get, slice_index, count_by, All, Option, Some, None, option_map, option_and_then}
+use Rattle.std.specs.Prelude.{◌≡◌, ℕ, ◌+◌, ◌*◌, ◌/◌, ◌%◌, ◌^◌, ◌<◌, Bool, true, false, ◌&&◌, nat_le, nat_lt, not, List, length, slice_get, slice_index, count_by, All, Option, Some, None, option_map, option_and_then}
 use Rattle.std.specs.Option.{option_map_or}
 use Rattle.guest_model.specs.ByteMap.{ByteMap}
 use Rattle.paged_image.specs.Owner.{page_bytes, is_own}
@@ -43,3 +43,13 @@ touches a n page = nat_lt 0 n && nat_le (a / 4096) page && nat_lt (page * 4096) 
 -- the number of touched pages that are shared
 abbrev pub shared_touched : List Entry → ℕ → ℕ → ℕ
 shared_touched entries a n = count_by (λ e. not (is_own e.page) && touches a n e.number) entries
+
+-- these are the bytes of the page with this number
+pub record IsPage (m : ByteMap) (number : ℕ) (bytes : List ℕ) : Type 0 where
+  pub below : number < 2 ^ 20
+  pub count : length bytes ≡ 4096
+  pub each : (k : ℕ) → k < 4096 → m (number * 4096 + k) ≡ Some (slice_index bytes k)
+
+-- the map has no byte of the page
+abbrev pub LacksPage : ByteMap → ℕ → Type 0
+LacksPage m number = (k : ℕ) → k < 4096 → m (number * 4096 + k) ≡ None

@@ -3,7 +3,7 @@
 ghost use Rattle.std.specs.Prelude.{◌≡◌, ◌+◌, ◌-◌, ◌/◌, ◌%◌, ◌^◌, ◌<◌, ◌≤◌, true, length, slice_get, Some, None, IfSome, IfNone, is_some, option_copied};
 ghost use Rattle.guest_model.specs.ByteMap.{mapped, bytes_from, CopiesOut};
 ghost use Rattle.guest_model.specs.Place.{IsPiece};
-ghost use Rattle.paged_image.specs.Pages.{entry_at, bytes_at};
+ghost use Rattle.paged_image.specs.Pages.{entry_at, bytes_at, IsPage, LacksPage};
 ghost use Rattle.paged_image.specs.Image.{content};
 ghost use Rattle.paged_image.specs.Changes.{page_of};
 
@@ -51,7 +51,8 @@ impl PagedImage {
 
     /// The bytes of the page with this number, whose first address is `number * 4096`; None where it is unmapped.
     pub fn page(&self, number: u32) -> Option<&[u8]>
-        ensures { option_copied result ≡ page_of self.now number }
+        ensures none { IfNone result (LacksPage (content self.now) number) }
+        ensures some { IfSome result (λ bytes. IsPage (content self.now) number bytes.now) }
     {
         if number < 1 << 20 {
             self.page_bytes(number)
