@@ -1,4 +1,5 @@
 pub mod OnBuilder
+pub mod OnCommands
 pub mod OnEntries
 pub mod OnFaces
 pub mod OnImage

@@ -3,6 +3,7 @@
 #![tactic(auto)]
 
 mod builder;
+pub mod commands;
 mod entry;
 mod image;
 mod owner;
