@@ -1,5 +1,5 @@
 -- One image in a list of images
-use Rattle.std.proofs.Common.{◌≡◌, ℕ, zero, suc, ◌+◌, ◌<◌, ◌≤◌, Bool, true, false, cond, List, [], ◌∷◌, ◌++◌, length, map, get_or, Option, Some, None, Result, Ok, Err, refl, sym, ◌∙◌, ap, subst, arith}
+use Rattle.std.proofs.Common.{◌≡◌, ℕ, zero, suc, ◌<◌, ◌≤◌, true, false, List, [], ◌∷◌, ◌++◌, length, get_or, Option, Some, None, refl, sym, ◌∙◌, ap, arith}
 use Rattle.std.specs.Prelude.{slice_get, option_map, option_to_list}
 use Rattle.std.proofs.Math.ListN.{set}
 use Rattle.std.proofs.lemmas.Bool.{cond-true, cond-false}
@@ -44,10 +44,10 @@ module _ (ts : List PagedImage) (i : ℕ) (x y : PagedImage) (within : i < lengt
 
   pub contents-changed : (f : ByteMap → ByteMap) → content y ≡ f (content x) → contents (set ts i y) ≡ change_at (contents ts) i f
   contents-changed f h =
-    map-set content ts i y ∙ ap (set (contents ts) i) (h ∙ ap f (sym here)) ∙ set-change (contents ts) i (content x) f (omega (arith, length-map ts content))
+      map-set content ts i y ∙ ap (set (contents ts) i) (h ∙ ap f (sym here)) ∙ set-change (contents ts) i (content x) f (omega (arith, length-map ts content))
 
   pub contents-copied : (copy : PagedImage) → content y ≡ content x → content copy ≡ content x → contents (set ts i y ++ copy ∷ []) ≡ with_copy (contents ts) i
   contents-copied copy h k =
-    let found : slice_get (contents ts) i ≡ Some (content x) = slice_get-map content ts i ∙ ap (option_map content) (slice_get_read ts (length ts) i x refl within at) in
-    map_push content (set ts i y) copy ∙ ap (λ (ms : List ByteMap). ms ++ content copy ∷ []) (contents-same h) ∙ ap (λ (m : ByteMap). contents ts ++ m ∷ []) k
+      let found : slice_get (contents ts) i ≡ Some (content x) = slice_get-map content ts i ∙ ap (option_map content) (slice_get_read ts (length ts) i x refl within at) in
+      map_push content (set ts i y) copy ∙ ap (λ (ms : List ByteMap). ms ++ content copy ∷ []) (contents-same h) ∙ ap (λ (m : ByteMap). contents ts ++ m ∷ []) k
       ∙ ap (λ (o : Option ByteMap). contents ts ++ option_to_list o) (sym found)

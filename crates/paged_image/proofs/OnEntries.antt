@@ -1,21 +1,18 @@
 -- An entry in another's place: what is found then, and what the index, the write set and the count of own pages keep
-use Rattle.std.proofs.Common.{◌≡◌, ℕ, zero, suc, ◌+◌, ◌-◌, ◌*◌, ◌/◌, ◌%◌, ◌^◌, ◌<◌, ◌≤◌, ◌⊎◌, inl, inr, Bool, true, false, cond, ◌==◌, ◌&&◌, not, List, [], ◌∷◌, ◌++◌, length, get_or, take, drop, Option, Some, None, is_some, refl, sym, ◌∙◌, ap, subst, arith}
-use Rattle.std.specs.Prelude.{slice_get, slice_index, option_map, option_and_then, unwrap_or, count_by, All}
+use Rattle.std.proofs.Common.{◌≡◌, ℕ, zero, suc, ◌+◌, ◌<◌, ◌≤◌, ◌⊎◌, inl, inr, Bool, true, false, cond, ◌&&◌, not, List, [], ◌∷◌, length, get_or, Option, Some, None, refl, sym, ◌∙◌, ap, arith}
+use Rattle.std.specs.Prelude.{slice_get, option_map, option_and_then, count_by}
 use Rattle.std.specs.Option.{option_map_or}
-use Rattle.std.proofs.Math.ListN.{set, length-set}
-use Rattle.std.proofs.lemmas.Bool.{cases_eq, cases_lt, cond-true, cond-false}
-use Rattle.std.proofs.lemmas.Bool.Decides.{nat_tests}
-use Rattle.std.proofs.lemmas.Grind.{common_steps}
-use Rattle.std.proofs.lemmas.List.{get_or-set_other, get_or-set_same}
+use Rattle.std.proofs.Math.ListN.{set}
+use Rattle.std.proofs.lemmas.Bool.{cases_eq}
 use Rattle.std.proofs.lemmas.List.Sums.{sum_by-cons}
 use Rattle.std.proofs.lemmas.List.Elements.{All-set}
-use Rattle.std.proofs.lemmas.Option.{gets, slice_get_within, slice_get-get_or, get_or_from_slice_get, slice_get_past}
+use Rattle.std.proofs.lemmas.Option.{slice_get_within}
 use Rattle.paged_image.specs.Owner.{page_bytes, is_own}
 use Rattle.paged_image.specs.WriteSet.{has}
-use Rattle.paged_image.specs.Pages.{entry_at, bytes_at, own_at, Finds, OwnIsWritten, own_count, touches, shared_touched}
+use Rattle.paged_image.specs.Pages.{entry_at, bytes_at, own_at, Finds, OwnIsWritten, own_count}
 use Rattle.paged_image.specs.Changes.{Grows}
 use Rattle.paged_image.specs.declared.entry.Entry.{Entry}
-use Rattle.paged_image.proofs.OnPages.{Replaces, IsTable}
+use Rattle.paged_image.proofs.OnPages.{Replaces}
 
 slice_get-set_same : (es : List Entry) (k : ℕ) (y : Entry) → k < length es → slice_get (set es k y) k ≡ Some y
 slice_get-set_same [] k y h = absurd (omega arith)

@@ -1,10 +1,10 @@
 -- Entries that are shared: their numbers and bytes stay
 use Rattle.std.proofs.Common.{◌≡◌, ℕ, zero, suc, ◌+◌, ◌<◌, ◌≤◌, ◌⊎◌, inl, inr, Bool, true, false, cond, List, [], ◌∷◌, ◌++◌, length, map, get_or, take, Option, Some, None, Result, Ok, Err, refl, sym, ◌∙◌, ap, subst, arith}
-use Rattle.std.specs.Prelude.{OnErr, slice_get, option_map, option_and_then, All, count_by}
+use Rattle.std.specs.Prelude.{OnErr, slice_get, option_map, option_and_then}
 use Rattle.std.proofs.Math.ListN.{set}
-use Rattle.std.proofs.lemmas.Bool.{false≢true, cond-false}
+use Rattle.std.proofs.lemmas.Bool.{false≢true}
 use Rattle.std.proofs.lemmas.List.{map-set, set-get_or, get_or-map, take_more_set, map_push, length-map}
-use Rattle.std.proofs.lemmas.List.Elements.{All-push, All-tail, All-head}
+use Rattle.std.proofs.lemmas.List.Elements.{All-push}
 use Rattle.std.proofs.lemmas.List.Sums.{sum_by-cons}
 use Rattle.std.proofs.lemmas.Option.{slice_get-map, same_Some}
 use Rattle.paged_image.specs.Owner.{page_bytes, is_own}

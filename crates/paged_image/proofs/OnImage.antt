@@ -1,26 +1,25 @@
 -- An image and the image that a step of a store leaves
-use Rattle.std.proofs.Common.{◌≡◌, ℕ, zero, suc, ◌+◌, ◌-◌, ◌*◌, ◌/◌, ◌%◌, ◌^◌, ◌<◌, ◌≤◌, ◌⊎◌, inl, inr, Bool, true, false, cond, ◌==◌, ◌&&◌, ◌||◌, not, List, [], ◌∷◌, ◌++◌, length, get_or, take, drop, Option, Some, None, is_some, Ok, Err, Result, refl, sym, ◌∙◌, ap, subst, arith}
-use Rattle.std.specs.Prelude.{slice_get, slice_index, slice_range, option_map, option_and_then, unwrap_or, count_by, All}
+use Rattle.std.proofs.Common.{◌≡◌, ℕ, ◌+◌, ◌/◌, ◌%◌, ◌<◌, ◌≤◌, ◌⊎◌, inl, inr, Bool, true, false, ◌==◌, ◌||◌, List, length, get_or, Option, Some, None, refl, sym, ◌∙◌, ap, subst, arith}
+use Rattle.std.specs.Prelude.{slice_get, slice_range, option_map, option_and_then}
 use Rattle.std.specs.Option.{option_map_or}
-use Rattle.std.proofs.Math.ListN.{set, length-set}
-use Rattle.std.proofs.lemmas.Bool.{cases_eq, cases_lt, cond-true, cond-false, eqb-true, false≢true}
+use Rattle.std.proofs.Math.ListN.{set}
+use Rattle.std.proofs.lemmas.Bool.{cases_eq, eqb-true, false≢true}
 use Rattle.std.proofs.lemmas.Bool.Decides.{nat_tests}
-use Rattle.std.proofs.lemmas.Grind.{common_steps}
-use Rattle.std.proofs.lemmas.Option.{gets, slice_get_within, slice_get-get_or, get_or_from_slice_get, slice_get_past, slice_get_read, none-some, same_Some}
-use Rattle.guest_model.specs.ByteMap.{ByteMap, mapped, bytes_from, write}
+use Rattle.std.proofs.lemmas.Option.{slice_get_within, get_or_from_slice_get, slice_get_read, none-some, same_Some}
+use Rattle.guest_model.specs.ByteMap.{bytes_from, write}
 use Rattle.guest_model.specs.Place.{IsPiece}
 use Rattle.guest_model.proofs.OnByteMap.{length-bytes_from}
 use Rattle.paged_image.specs.Owner.{page_bytes, is_own, overwritten}
 use Rattle.paged_image.specs.WriteSet.{has}
-use Rattle.paged_image.specs.Pages.{entry_at, bytes_at, own_at, paged, Finds, OwnIsWritten, own_count, touches, shared_touched}
-use Rattle.paged_image.specs.Image.{content, written_of, owned_of, shared_in}
-use Rattle.paged_image.specs.Changes.{Marks, Grows, page_of, owns, Advances}
+use Rattle.paged_image.specs.Pages.{entry_at, bytes_at, own_at, paged, OwnIsWritten}
+use Rattle.paged_image.specs.Image.{content}
+use Rattle.paged_image.specs.Changes.{Grows, page_of, owns, Advances}
 use Rattle.paged_image.specs.declared.owner.Owner.{Owner}
 use Rattle.paged_image.specs.declared.owner.Owner.TheVariants.{Own, Shared}
 use Rattle.paged_image.specs.declared.entry.Entry.{Entry}
 use Rattle.paged_image.specs.declared.image.PagedImage.{PagedImage}
-use Rattle.paged_image.proofs.OnPages.{IsTable, Replaces, paged-at, paged-none, paged-same, mapped-page, bytes_from-page, write-page}
-use Rattle.paged_image.proofs.OnEntries.{own_written-set, own_written-more, entry_at-there, bytes_at-there, bytes_at-absent, own_at-there, own_at-absent, entry_at-set_same, replaces-set, bytes_at-set, own_at-set_same, own_at-set_other, grows-same, grows-set, grows-trans, grows-more, own_count-grows}
+use Rattle.paged_image.proofs.OnPages.{IsTable, Replaces, paged-same, mapped-page, bytes_from-page, write-page}
+use Rattle.paged_image.proofs.OnEntries.{own_written-set, own_written-more, entry_at-there, bytes_at-there, bytes_at-absent, own_at-there, own_at-absent, replaces-set, own_at-set_same, own_at-set_other, grows-same, grows-set, grows-trans, grows-more}
 
 pub length-page_bytes : (o : Owner) → length (page_bytes o) ≡ 4096
 length-page_bytes (Own page) = page.value.whole

@@ -1,8 +1,8 @@
 -- Loads by the bytes that a piece of memory has
-use Rattle.std.proofs.Common.{◌≡◌, ℕ, zero, suc, ◌+◌, ◌/◌, ◌%◌, ◌≤◌, ◌<◌, Bool, true, false, List, [], ◌∷◌, length, get_or, Some, None, refl, sym, ◌∙◌, ap, arith, add-zero}
-use Rattle.std.specs.Int.{Width, w8, w16, w32, byte_len, from_le_bytes}
+use Rattle.std.proofs.Common.{◌≡◌, ℕ, ◌+◌, ◌/◌, ◌%◌, ◌≤◌, List, [], ◌∷◌, length, get_or, Some, None, ◌∙◌, ap, arith, add-zero}
+use Rattle.std.specs.Int.{Width, w8, byte_len, from_le_bytes}
 use Rattle.std.proofs.lemmas.List.{nil_from_length}
-use Rattle.guest_model.specs.ByteMap.{ByteMap, mapped, load, CopiesOut}
+use Rattle.guest_model.specs.ByteMap.{ByteMap, load}
 use Rattle.guest_model.specs.Place.{IsPiece}
 use Rattle.guest_model.proofs.OnByteMap.{load-mapped, load-unmapped, mapped-absent}
 use Rattle.paged_image.specs.Image.{content}

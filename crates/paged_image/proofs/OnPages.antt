@@ -1,19 +1,13 @@
 -- Pages as a byte map: what one page has, and what a change of one page changes
-use Rattle.std.proofs.Common.{◌≡◌, ℕ, zero, suc, ◌+◌, ◌-◌, ◌*◌, ◌/◌, ◌%◌, ◌^◌, ◌<◌, ◌≤◌, ◌⊎◌, inl, inr, Bool, true, false, cond, ◌==◌, List, [], ◌∷◌, ◌++◌, length, get_or, take, drop, Option, Some, None, is_some, refl, sym, ◌∙◌, ap, subst, arith}
-use Rattle.std.specs.Prelude.{slice_get, slice_index, slice_range, option_map, option_and_then, unwrap_or}
-use Rattle.std.specs.Option.{option_map_or}
-use Rattle.std.proofs.Math.ListN.{set, length-set}
+use Rattle.std.proofs.Common.{◌≡◌, ℕ, ◌+◌, ◌-◌, ◌/◌, ◌%◌, ◌^◌, ◌<◌, ◌≤◌, ◌⊎◌, inl, inr, true, List, length, get_or, Option, Some, None, is_some, sym, ◌∙◌, ap, arith}
+use Rattle.std.specs.Prelude.{slice_index, slice_range, option_map, unwrap_or}
 use Rattle.std.proofs.Math.Path.{fun_ext}
-use Rattle.std.proofs.lemmas.Bool.{cases_eq, cases_lt, cond-true, cond-false}
-use Rattle.std.proofs.lemmas.Bool.Decides.{nat_tests}
+use Rattle.std.proofs.lemmas.Bool.{cases_eq}
 use Rattle.std.proofs.lemmas.Grind.{common_steps}
-use Rattle.std.proofs.lemmas.List.{places, get_or-set_other, get_or-set_same}
-use Rattle.std.proofs.lemmas.Option.{gets, slice_get_within, slice_get-get_or, get_or_from_slice_get, slice_get_past}
-use Rattle.guest_model.specs.ByteMap.{ByteMap, byte, mapped, bytes_from, write}
-use Rattle.guest_model.proofs.OnByteMap.{mapped-all, mapped-absent, mapped-at, mapped-bound, bytes_from-fill, write-is}
-use Rattle.paged_image.specs.Owner.{page_bytes, is_own, overwritten}
-use Rattle.paged_image.specs.Pages.{entry_at, bytes_at, own_at, paged, Finds}
-use Rattle.paged_image.specs.declared.entry.Entry.{Entry}
+use Rattle.guest_model.specs.ByteMap.{mapped, bytes_from, write}
+use Rattle.guest_model.proofs.OnByteMap.{mapped-all, bytes_from-fill, write-is}
+use Rattle.paged_image.specs.Owner.{overwritten}
+use Rattle.paged_image.specs.Pages.{paged}
 
 -- ---- one page of a map of pages
 

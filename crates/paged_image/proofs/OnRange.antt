@@ -1,19 +1,17 @@
 -- Ranges of addresses over several pages
-use Rattle.std.proofs.Common.{◌≡◌, ℕ, zero, suc, ◌+◌, ◌-◌, ◌*◌, ◌/◌, ◌%◌, ◌^◌, ◌<◌, ◌≤◌, ◌⊎◌, inl, inr, Bool, true, false, List, [], ◌∷◌, ◌++◌, length, get_or, take, drop, Option, Some, None, is_some, refl, sym, ◌∙◌, ap, subst, arith, length-append, min}
-use Rattle.std.specs.Prelude.{slice_get, slice_index, slice_range, option_map, unwrap_or}
-use Rattle.std.proofs.lemmas.Bool.{cases_eq, cases_lt, false≢true}
-use Rattle.std.proofs.lemmas.Bool.Decides.{nat_tests}
+use Rattle.std.proofs.Common.{◌≡◌, ℕ, ◌+◌, ◌-◌, ◌*◌, ◌/◌, ◌%◌, ◌^◌, ◌<◌, ◌≤◌, ◌⊎◌, inl, inr, true, false, List, ◌++◌, length, get_or, take, drop, Option, Some, None, is_some, refl, sym, ◌∙◌, ap, arith, length-append}
+use Rattle.std.specs.Prelude.{slice_index}
+use Rattle.std.proofs.lemmas.Bool.{cases_lt, false≢true}
 use Rattle.std.proofs.lemmas.Grind.{common_steps}
-use Rattle.std.proofs.lemmas.Slice.{take-put_mid, overwrites}
-use Rattle.std.proofs.lemmas.List.{take_all}
+use Rattle.std.proofs.lemmas.Slice.{take-put_mid}
 use borrow.Rule.Slice.PartMut.{put_mid}
 use Rattle.guest_model.specs.ByteMap.{ByteMap, byte, mapped, bytes_from, write}
-use Rattle.guest_model.proofs.OnByteMap.{mapped-all, mapped-absent, mapped-at, mapped-bound, bytes_from-fill, bytes_from-at, length-bytes_from, write-is, write-inside, write-outside}
-use Rattle.paged_image.specs.Pages.{paged, IsPage, LacksPage}
+use Rattle.guest_model.proofs.OnByteMap.{mapped-all, mapped-absent, mapped-at, bytes_from-fill, bytes_from-at, length-bytes_from, write-is, write-inside, write-outside}
+use Rattle.paged_image.specs.Pages.{IsPage, LacksPage}
 use Rattle.paged_image.specs.Image.{content, content-bounded}
 use Rattle.paged_image.specs.Changes.{page_of}
 use Rattle.paged_image.specs.declared.image.PagedImage.{PagedImage}
-use Rattle.paged_image.proofs.OnPages.{IsTable, paged-at, paged-none}
+use Rattle.paged_image.proofs.OnPages.{paged-at, paged-none}
 use Rattle.paged_image.proofs.OnImage.{table_of}
 
 there_or_not : (o : Option (List ℕ)) → (o ≡ None) ⊎ ((bytes : List ℕ) × (o ≡ Some bytes))
@@ -109,14 +107,14 @@ write-append m a xs ys = write-is m (write (write m a xs) (a + length xs) ys) a 
 
 pub page-some : (t : PagedImage) (number : ℕ) (bytes : List ℕ) → page_of t number ≡ Some bytes → IsPage (content t) number bytes
 unfolding content
-page-some t number bytes h = record
-  { below = (table_of t).below number bytes h
-  ; count = (table_of t).whole number bytes h
-  ; each = λ k l.
+page-some t number bytes h = record {
+  below = (table_of t).below number bytes h;
+  count = (table_of t).whole number bytes h;
+  each = λ k l.
       let page : (number * 4096 + k) / 4096 ≡ number = omega arith in
       let offset : (number * 4096 + k) % 4096 ≡ k = omega arith in
-      paged-at (page_of t) (number * 4096 + k) number bytes h page ∙ ap (λ (i : ℕ). Some (slice_index bytes i)) offset
-  }
+      paged-at (page_of t) (number * 4096 + k) number bytes h page ∙ ap (λ (i : ℕ). Some (slice_index bytes i)) offset;
+}
 
 pub page-none : (t : PagedImage) (number : ℕ) → page_of t number ≡ None → LacksPage (content t) number
 page-none t number h k l = byte-absent t (number * 4096 + k) number h (omega arith)

@@ -1,24 +1,24 @@
 -- Stores as a whole: what the steps of a store add up to
-use Rattle.std.proofs.Common.{◌≡◌, ℕ, zero, suc, ◌+◌, ◌-◌, ◌*◌, ◌/◌, ◌%◌, ◌^◌, ◌<◌, ◌≤◌, ◌⊎◌, inl, inr, Bool, true, false, ◌&&◌, ◌||◌, List, [], ◌∷◌, ◌++◌, length, get_or, take, drop, Option, Some, None, is_some, Ok, Err, Result, IsTrue, refl, sym, ◌∙◌, ap, subst, arith}
-use Rattle.std.specs.Prelude.{nat_le, nat_lt, slice_range, OnOk, is_err}
+use Rattle.std.proofs.Common.{◌≡◌, ℕ, ◌+◌, ◌-◌, ◌*◌, ◌/◌, ◌%◌, ◌<◌, ◌≤◌, ◌⊎◌, inl, inr, Bool, true, false, ◌&&◌, ◌||◌, List, ◌++◌, length, take, drop, Ok, Err, Result, refl, sym, ◌∙◌, ap, arith}
+use Rattle.std.specs.Prelude.{nat_le, nat_lt, OnOk, is_err}
 use Rattle.std.specs.Bool.{OnTrue, OnFalse}
 use Rattle.std.proofs.lemmas.Bool.{false≢true, cases_lt}
 use Rattle.std.proofs.lemmas.Bool.Decides.{nat_tests}
 use Rattle.std.proofs.lemmas.Grind.{common_steps}
 use Rattle.std.proofs.lemmas.List.{drop-take, take-take, take-append-drop}
-use Rattle.guest_model.specs.ByteMap.{ByteMap, mapped, bytes_from, write, Stores, Keeps}
+use Rattle.guest_model.specs.ByteMap.{ByteMap, mapped, write, Stores, Keeps}
 use Rattle.guest_model.specs.declared.memory.StoreFault.{StoreFault}
 use Rattle.guest_model.specs.declared.memory.StoreFault.TheVariants.{Unmapped, NoMemory}
-use Rattle.guest_model.proofs.OnByteMap.{mapped-at, mapped-bound, write-outside, write-nothing}
+use Rattle.guest_model.proofs.OnByteMap.{write-outside}
 use Rattle.paged_image.specs.WriteSet.{has}
-use Rattle.paged_image.specs.Pages.{paged, touches, own_count, shared_touched}
+use Rattle.paged_image.specs.Pages.{touches}
 use Rattle.paged_image.specs.Image.{content, written_of, owned_of, shared_in}
 use Rattle.paged_image.specs.Changes.{Marks, Stored, page_of, owns, Advances}
 use Rattle.paged_image.specs.declared.image.PagedImage.{PagedImage}
 use Rattle.paged_image.proofs.OnPages.{mapped-page}
 use Rattle.paged_image.proofs.OnEntries.{own_count-grows, bytes_at-there, entry_at-there}
 use Rattle.paged_image.proofs.OnImage.{table_of, own_at-some, owns-written, advances-more, or_left, or_right}
-use Rattle.paged_image.proofs.OnRange.{write-append, part_length}
+use Rattle.paged_image.proofs.OnRange.{write-append}
 
 pub on_ok : {T E : Type 0} (r : Result T E) (P : Type 0) → false ≡ is_err r → OnOk r P → P
 on_ok (Ok x) P e h = h

@@ -1,5 +1,5 @@
 -- What a store does to an image besides its bytes
-use Rattle.std.specs.Prelude.{◌≡◌, ℕ, ◌+◌, ◌/◌, ◌≤◌, Bool, true, false, ◌||◌, List, [], ◌∷◌, length, Option, Result, Ok, Err, ◌⊎◌}
+use Rattle.std.specs.Prelude.{◌≡◌, ℕ, ◌+◌, ◌/◌, ◌≤◌, Bool, true, ◌||◌, List, [], ◌∷◌, length, Option, Result, Ok, Err, ◌⊎◌}
 use Rattle.guest_model.specs.ByteMap.{Stores, Keeps}
 use Rattle.guest_model.specs.declared.memory.StoreFault.{StoreFault}
 use Rattle.guest_model.specs.declared.memory.StoreFault.TheVariants.{Unmapped, NoMemory}

@@ -1,5 +1,5 @@
 -- The flat memories that a list of stores and snapshots leaves
-use Rattle.std.specs.Prelude.{ℕ, zero, suc, ◌^◌, ◌<◌, Bool, if◌then◌else◌, List, [], ◌∷◌, ◌++◌, length, map, fold, slice_get, Option, option_to_list}
+use Rattle.std.specs.Prelude.{ℕ, zero, suc, ◌^◌, ◌<◌, if◌then◌else◌, List, [], ◌∷◌, ◌++◌, length, map, fold, slice_get, option_to_list}
 use Rattle.std.specs.Int.{w16, w32, to_le_bytes}
 use Rattle.guest_model.specs.ByteMap.{ByteMap, mapped, write}
 use Rattle.paged_image.specs.Image.{content}

@@ -1,5 +1,5 @@
 -- Lists of entries
-use Rattle.std.specs.Prelude.{◌≡◌, ℕ, Bool, false, List, All}
+use Rattle.std.specs.Prelude.{◌≡◌, ℕ, false, List, All}
 use Rattle.paged_image.specs.Owner.{page_bytes, is_own}
 use Rattle.paged_image.specs.declared.entry.Entry.{Entry}
 

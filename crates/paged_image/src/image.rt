@@ -13,6 +13,8 @@ mod memory;
 mod reads;
 mod snapshot;
 mod stores;
+#[cfg(test)]
+mod tests;
 
 /// A memory of pages of 4,096 bytes, some of which it owns and the others of which it shares with its snapshots.
 ///

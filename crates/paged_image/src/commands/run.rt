@@ -37,7 +37,12 @@ fn carry_out(images: &mut Vec<PagedImage>, command: &Command) -> Result<(), NoMe
     }
 }
 
-fn store_in(images: &mut Vec<PagedImage>, image: usize, at: u32, data: &Data) -> Result<(), NoMemory>
+fn store_in(
+    images: &mut Vec<PagedImage>,
+    image: usize,
+    at: u32,
+    data: &Data,
+) -> Result<(), NoMemory>
     requires { length (bytes_of data.now) < 2 ^ 32 }
     ensures ok { OnOk result (contents images.new.items ≡ change_at (contents images.old.items) image (λ m. stored m at (bytes_of data.now))) }
     ensures err { OnErr result (contents images.new.items ≡ contents images.old.items) }

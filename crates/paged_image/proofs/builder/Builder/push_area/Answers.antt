@@ -1,4 +1,4 @@
-use Rattle.std.proofs.Common.{◌≡◌, ℕ, ◌+◌, ◌-◌, ◌*◌, ◌/◌, ◌≤◌, List, length, take, drop, sym, ◌∙◌, ap, arith}
+use Rattle.std.proofs.Common.{◌≡◌, ℕ, ◌+◌, ◌-◌, ◌*◌, ◌/◌, take, drop, sym, ◌∙◌, ap, arith}
 use Rattle.guest_model.specs.ByteMap.{write}
 use Rattle.guest_model.proofs.OnByteMap.{write-nothing}
 use Rattle.paged_image.specs.Builder.{built}

@@ -1,10 +1,8 @@
-use Rattle.std.proofs.Common.{◌≡◌, ℕ, ◌+◌, ◌<◌, ◌≤◌, false, true, List, [], ◌∷◌, ◌++◌, length, Some, refl, sym, ◌∙◌, ap, subst, arith, Box, Global}
-use Rattle.std.specs.Prelude.{slice_get}
+use Rattle.std.proofs.Common.{◌≡◌, ℕ, ◌≤◌, false, List, [], ◌∷◌, ◌++◌, length, refl, ◌∙◌, ap, Box, Global}
 use Rattle.std.proofs.Math.ListN.{set, length-set}
 use Rattle.std.proofs.lemmas.List.Elements.{All-push}
 use Rattle.paged_image.specs.Owner.{page_bytes, is_own}
-use Rattle.paged_image.specs.Entries.{NoneOwn}
-use Rattle.paged_image.specs.Pages.{Finds, paged, bytes_at}
+use Rattle.paged_image.specs.Pages.{paged, bytes_at}
 use Rattle.paged_image.specs.Builder.{built}
 use Rattle.paged_image.specs.declared.entry.Entry.{Entry}
 use Rattle.paged_image.specs.declared.owner.Owner.TheVariants.{Shared}

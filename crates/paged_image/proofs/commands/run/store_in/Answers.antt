@@ -1,5 +1,4 @@
-use Rattle.std.proofs.Common.{◌≡◌, ◌≤◌, ◌<◌, length, sym, ◌∙◌, arith}
-use Rattle.guest_model.specs.ByteMap.{ByteMap}
+use Rattle.std.proofs.Common.{arith}
 use Rattle.paged_image.specs.Image.{content}
 use Rattle.paged_image.specs.Commands.{stored, bytes_of}
 use Rattle.paged_image.proofs.OnCommands.{stored-mapped, stored-unmapped, contents-absent, contents-same, contents-changed}
@@ -15,7 +14,7 @@ returns-in-Ok-clause-ok c =
     let y = c.store.new.image in
     let bytes = bytes_of c.args.data.now in
     contents-changed c.args.images.now.items c.args.image x y (omega arith) c.index_mut-target.ensures.value (λ m. stored m c.args.at bytes)
-      (stored-mapped (content x) (content y) c.args.at bytes c.in-Ok.ensures.0 c.in-Ok.ensures.1)
+    (stored-mapped (content x) (content y) c.args.at bytes c.in-Ok.ensures.0 c.in-Ok.ensures.1)
 
 pub returns-in-Err-Unmapped-clause-ok : goal.returns-in-Err-Unmapped-clause-ok
 returns-in-Err-Unmapped-clause-ok c =
@@ -24,7 +23,7 @@ returns-in-Err-Unmapped-clause-ok c =
     let bytes = bytes_of c.args.data.now in
     let said = rw c.in-Err-Unmapped.field-0-is at c.in-Err-Unmapped.ensures in
     contents-changed c.args.images.now.items c.args.image x y (omega arith) c.index_mut-target.ensures.value (λ m. stored m c.args.at bytes)
-      (stored-unmapped (content x) (content y) c.args.at bytes said.0 said.1)
+    (stored-unmapped (content x) (content y) c.args.at bytes said.0 said.1)
 
 pub returns-in-Err-NoMemory-clause-err : goal.returns-in-Err-NoMemory-clause-err
 returns-in-Err-NoMemory-clause-err c =

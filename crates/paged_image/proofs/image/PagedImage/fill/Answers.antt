@@ -1,8 +1,7 @@
-use Rattle.std.proofs.Common.{◌≡◌, ◌+◌, ◌-◌, ◌/◌, ◌%◌, ◌≤◌, ◌^◌, length, sym, arith, ◌∙◌, ap, IsTrue, true, is_some, ℕ, [], refl}
-use Rattle.guest_model.specs.ByteMap.{mapped, bytes_from}
+use Rattle.std.proofs.Common.{◌+◌, ◌-◌, ◌≤◌, ◌^◌, length, sym, arith, ◌∙◌, ap, [], refl}
+use Rattle.guest_model.specs.ByteMap.{bytes_from}
 use Rattle.guest_model.proofs.OnByteMap.{mapped-bound, bytes_from-fill}
 use Rattle.paged_image.specs.Image.{content}
-use Rattle.paged_image.specs.Changes.{page_of}
 use Rattle.paged_image.proofs.OnRange.{filled_more, part_length, page-mapped}
 use Rattle.paged_image.proofs.image.PagedImage.fill.Goals as goal
 

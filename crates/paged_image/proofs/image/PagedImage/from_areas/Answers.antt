@@ -1,4 +1,4 @@
-use Rattle.std.proofs.Common.{◌≡◌, ℕ, ◌+◌, ◌/◌, ◌<◌, ◌≤◌, List, [], ◌∷◌, ◌++◌, length, take, get_or, refl, sym, ◌∙◌, ap, subst, arith, Vec, Global}
+use Rattle.std.proofs.Common.{◌≡◌, ℕ, ◌+◌, ◌<◌, [], ◌∷◌, ◌++◌, length, take, get_or, sym, ◌∙◌, ap, subst, arith, Vec, Global}
 use Rattle.std.specs.Prelude.{AllPairs}
 use Rattle.std.proofs.lemmas.List.{take_more, take_all, get_or_read}
 use Rattle.guest_model.specs.ByteMap.{ByteMap, write}
@@ -7,7 +7,6 @@ use Rattle.guest_model.specs.declared.areas.Area.{Area}
 use Rattle.paged_image.specs.Pages.{paged, bytes_at}
 use Rattle.paged_image.specs.Builder.{built}
 use Rattle.paged_image.specs.Image.{content, written_of, owned_of}
-use Rattle.paged_image.specs.declared.builder.Builder.{Builder}
 use Rattle.paged_image.proofs.OnBuilder.{paged-nil, area_push, rising-take}
 use Rattle.paged_image.proofs.OnFaces.{own_count-none}
 use Rattle.paged_image.proofs.image.PagedImage.from_areas.Goals as goal

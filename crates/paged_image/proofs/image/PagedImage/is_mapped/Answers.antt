@@ -1,4 +1,4 @@
-use Rattle.std.proofs.Common.{sym, arith, ◌∙◌}
+use Rattle.std.proofs.Common.{sym, arith}
 use Rattle.guest_model.proofs.OnByteMap.{mapped-past}
 use Rattle.paged_image.specs.Image.{content}
 use Rattle.paged_image.proofs.OnRange.{mapped-pages, mapped-absent_page, mapped-empty}

@@ -1,14 +1,8 @@
-use Rattle.std.proofs.Common.{◌≡◌, ℕ, ◌<◌, ◌≤◌, ◌==◌, ◌||◌, List, Bool, true, false, length, Some, None, is_some, refl, sym, ◌∙◌, ap, arith}
-use Rattle.std.specs.Prelude.{slice_get}
-use Rattle.std.proofs.Math.ListN.{set}
+use Rattle.std.proofs.Common.{◌≡◌, ◌==◌, true, false, is_some, refl, sym, ◌∙◌, ap}
 use Rattle.std.proofs.lemmas.Bool.{false≢true}
-use Rattle.paged_image.specs.Owner.{page_bytes, is_own}
-use Rattle.paged_image.specs.WriteSet.{has}
-use Rattle.paged_image.specs.Pages.{OwnIsWritten}
-use Rattle.paged_image.specs.Changes.{owns, page_of, Advances}
+use Rattle.paged_image.specs.Owner.{is_own}
 use Rattle.paged_image.specs.declared.entry.Entry.{Entry}
-use Rattle.paged_image.specs.declared.image.PagedImage.{PagedImage}
-use Rattle.paged_image.proofs.OnEntries.{finds-set, bytes_at-set, own_at-set_same, own_written-more, own_written-set}
+use Rattle.paged_image.proofs.OnEntries.{finds-set, bytes_at-set, own_at-set_same}
 use Rattle.paged_image.proofs.OnImage.{advances-same, advances-own, advances-equal, page_of-absent, owns-at, read_entry, read_same, own_written-own}
 use Rattle.paged_image.proofs.image.PagedImage.own_page.Goals as goal
 

@@ -1,4 +1,4 @@
-use Rattle.std.proofs.Common.{sym, arith, ◌+◌, ◌≤◌, ◌%◌, ◌/◌}
+use Rattle.std.proofs.Common.{sym, arith, ◌/◌}
 use Rattle.paged_image.proofs.OnImage.{piece-page, page_of-absent}
 use Rattle.paged_image.proofs.image.PagedImage.piece.Goals as goal
 

@@ -1,4 +1,3 @@
-use Rattle.std.proofs.Common.{◌∙◌}
 use Rattle.paged_image.proofs.OnStores.{stored_in_page}
 use Rattle.paged_image.proofs.image.PagedImage.put.Goals as goal
 

@@ -1,11 +1,10 @@
-use Rattle.std.proofs.Common.{◌≡◌, ◌+◌, ◌≤◌, ◌/◌, ◌%◌, ◌^◌, ◌-◌, ℕ, [], refl, false, length, sym, ◌∙◌, ap, arith}
+use Rattle.std.proofs.Common.{◌≡◌, ◌+◌, ◌≤◌, ◌/◌, ◌^◌, ◌-◌, [], refl, false, length, sym, ◌∙◌, ap, arith}
 use Rattle.guest_model.proofs.OnByteMap.{mapped-bound, write-nothing}
 use Rattle.std.proofs.lemmas.List.{nil_from_length}
 use Rattle.std.proofs.lemmas.Bool.{false≢true}
 use Rattle.guest_model.specs.ByteMap.{ByteMap, write}
 use Rattle.paged_image.specs.Image.{content}
 use Rattle.paged_image.specs.Pages.{touches}
-use Rattle.paged_image.proofs.OnPages.{paged-same}
 use Rattle.paged_image.proofs.OnImage.{content-same, advances-same, advances-more, advances-trans}
 use Rattle.paged_image.proofs.OnRange.{page-mapped}
 use Rattle.paged_image.proofs.OnStores.{on_ok, touches-range, stored_ok, stored_refused}

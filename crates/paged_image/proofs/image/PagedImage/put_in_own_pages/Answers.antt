@@ -1,6 +1,5 @@
-use Rattle.std.proofs.Common.{◌≡◌, ◌+◌, ◌≤◌, ◌/◌, ◌%◌, ◌-◌, ℕ, false, true, length, take, drop, sym, ◌∙◌, ap, arith}
+use Rattle.std.proofs.Common.{◌≡◌, ◌+◌, ◌≤◌, ◌/◌, ◌%◌, ◌-◌, false, true, length, take, drop, sym, arith}
 use Rattle.guest_model.proofs.OnByteMap.{write-nothing}
-use Rattle.guest_model.specs.ByteMap.{write}
 use Rattle.paged_image.specs.Image.{content}
 use Rattle.paged_image.specs.Changes.{owns}
 use Rattle.paged_image.proofs.OnImage.{advances-same, advances-trans}

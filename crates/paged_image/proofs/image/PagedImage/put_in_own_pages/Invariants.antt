@@ -1,4 +1,4 @@
-use Rattle.std.proofs.Common.{◌≡◌, ℕ, ◌-◌, ◌<◌, ◌≤◌, false, length, take}
+use Rattle.std.proofs.Common.{◌≡◌, ◌-◌, ◌≤◌, false, length, take}
 use Rattle.guest_model.specs.ByteMap.{write}
 use Rattle.paged_image.specs.Image.{content}
 use Rattle.paged_image.specs.Changes.{Advances}

@@ -1,5 +1,4 @@
-use Rattle.std.proofs.Common.{◌≡◌, ℕ, ◌≤◌, List, [], length, refl, sym, ◌∙◌, ap, subst, Vec, Global}
-use Rattle.std.specs.Prelude.{OnErr}
+use Rattle.std.proofs.Common.{◌≡◌, ℕ, List, length, refl, sym, ◌∙◌, ap, subst, Vec, Global}
 use Rattle.paged_image.specs.Pages.{Finds, paged, bytes_at}
 use Rattle.paged_image.specs.Image.{content, written_of, owned_of}
 use Rattle.paged_image.proofs.OnFaces.{finds-faces, paged-faces, own_written-grows, own_written-none, own_count-none, own_count-shrinks, on_err_always}

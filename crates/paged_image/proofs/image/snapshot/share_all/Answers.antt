@@ -1,9 +1,8 @@
-use Rattle.std.proofs.Common.{◌≡◌, ℕ, ◌<◌, false, true, List, [], ◌∷◌, ◌++◌, length, map, inl, inr, refl, sym, ◌∙◌, ap, subst, arith}
+use Rattle.std.proofs.Common.{◌≡◌, ℕ, ◌<◌, false, List, length, map, inl, refl, sym, ◌∙◌, ap, subst, arith}
 use Rattle.std.proofs.lemmas.Bool.{false≢true}
 use Rattle.std.proofs.lemmas.List.Elements.{All-push, All-nil}
-use Rattle.paged_image.specs.Owner.{page_bytes, is_own}
+use Rattle.paged_image.specs.Owner.{is_own}
 use Rattle.paged_image.specs.Entries.{face, NoneOwn}
-use Rattle.paged_image.specs.Changes.{Grows}
 use Rattle.paged_image.specs.declared.entry.Entry.{Entry}
 use Rattle.paged_image.proofs.OnEntries.{grows-same, grows-set, grows-trans}
 use Rattle.paged_image.proofs.OnFaces.{length-faces, faces-set, faces_more, none_own_more}

@@ -1,4 +1,4 @@
-use Rattle.std.proofs.Common.{◌≡◌, ℕ, false, map, take}
+use Rattle.std.proofs.Common.{◌≡◌, false, map, take}
 use Rattle.paged_image.specs.Entries.{face, NoneOwn}
 use Rattle.paged_image.specs.Changes.{Grows}
 use Rattle.paged_image.proofs.image.snapshot.share_all.Given as goal

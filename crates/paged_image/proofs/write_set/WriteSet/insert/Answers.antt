@@ -1,4 +1,4 @@
-use Rattle.std.proofs.Common.{◌≡◌, ℕ, List, ap, ◌||◌, ◌==◌, Bool, ◌∙◌, sym, subst}
+use Rattle.std.proofs.Common.{ℕ, List, ap, ◌∙◌, sym, subst}
 use Rattle.std.specs.Prelude.{AllPairs, ◌<◌}
 use Rattle.paged_image.specs.WriteSet.{has}
 use Rattle.paged_image.proofs.OnWriteSet.{rises-insert, search-there, search-absent, has-insert, has-there}
