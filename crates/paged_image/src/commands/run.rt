@@ -41,28 +41,28 @@ fn store_in(
     images: &mut Vec<PagedImage>,
     image: usize,
     at: u32,
-    data: &Data,
+    value: &Data,
 ) -> Result<(), NoMemory>
-    requires { length (bytes_of data.now) < 2 ^ 32 }
-    ensures ok { OnOk result (contents images.new.items ≡ change_at (contents images.old.items) image (λ m. stored m at (bytes_of data.now))) }
+    requires { length (bytes_of value.now) < 2 ^ 32 }
+    ensures ok { OnOk result (contents images.new.items ≡ change_at (contents images.old.items) image (λ m. stored m at (bytes_of value.now))) }
     ensures err { OnErr result (contents images.new.items ≡ contents images.old.items) }
 {
     if image >= images.len() {
         return Ok(());
     }
     let target = &mut images[image];
-    match store(target, at, data) {
+    match store(target, at, value) {
         Ok(()) => Ok(()),
         Err(StoreFault::Unmapped) => Ok(()),
         Err(StoreFault::NoMemory) => Err(NoMemory),
     }
 }
 
-fn store(image: &mut PagedImage, at: u32, data: &Data) -> Result<(), StoreFault>
-    requires { length (bytes_of data.now) < 2 ^ 32 }
-    ensures { Stores true (content image.old) (content image.new) at (bytes_of data.now) result }
+fn store(image: &mut PagedImage, at: u32, value: &Data) -> Result<(), StoreFault>
+    requires { length (bytes_of value.now) < 2 ^ 32 }
+    ensures { Stores true (content image.old) (content image.new) at (bytes_of value.now) result }
 {
-    match data {
+    match value {
         Data::Byte(v) => image.store8(at, *v),
         Data::Half(v) => image.store16(at, *v),
         Data::Word(v) => image.store32(at, *v),
