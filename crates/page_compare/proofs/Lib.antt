@@ -1,0 +1,4 @@
+pub mod OnEither
+pub mod OnLeast
+pub mod OnPagePair
+pub mod OnWalk

@@ -1,0 +1,10 @@
+pub mod OnBuilder
+pub mod OnCommands
+pub mod OnEntries
+pub mod OnFaces
+pub mod OnImage
+pub mod OnLoads
+pub mod OnPages
+pub mod OnRange
+pub mod OnStores
+pub mod OnWriteSet

@@ -1,0 +1,111 @@
+ghost use Rattle.std.specs.Prelude.{◌≡◌, ◌+◌, ◌≤◌, true, false, length, MatchBool, OnOk, OnErr, IfOk, IfSome, IfNone};
+
+use crate::page::Page;
+use basic_types::NoMemory;
+use core::mem;
+use std::alloc::Global;
+use std::sync::Arc;
+
+/// Who may write a page: the one image that owns it, or none of the images that share it.
+#[derive(Drop)]
+pub enum Owner {
+    Own(Box<Page>),
+    Shared(Arc<Box<Page>>),
+}
+
+impl Owner {
+    ghost use Rattle.paged_image.specs.Owner.{page_bytes, is_own, overwritten};
+
+    #[inline]
+    pub fn page(&self) -> &Page
+        ensures { result.now.bytes ≡ page_bytes self.now }
+    {
+        match self {
+            Owner::Own(page) => page,
+            Owner::Shared(page) => page,
+        }
+    }
+
+    #[inline]
+    pub fn is_own(&self) -> bool
+        ensures { result ≡ is_own self.now }
+    {
+        match self {
+            Owner::Own(_) => true,
+            Owner::Shared(_) => false,
+        }
+    }
+
+    /// Writes into an own page, and only there.
+    #[inline]
+    pub fn overwrite(&mut self, offset: usize, from: &[u8]) -> bool
+        requires { offset + length from.now ≤ 4096 }
+        ensures own { is_own self.new ≡ is_own self.old }
+        ensures answer { result ≡ is_own self.old }
+        ensures written { MatchBool result (page_bytes self.new ≡ overwritten (page_bytes self.old) offset from.now) (self.new ≡ self.old) }
+    {
+        match self {
+            Owner::Own(page) => {
+                page.overwrite(offset, from);
+                true
+            }
+            Owner::Shared(_) => false,
+        }
+    }
+
+    /// Takes a copy of a shared page.
+    ///
+    /// # Errors
+    /// `NoMemory` where there is no room for it; nothing has changed then.
+    #[cold]
+    #[inline(never)]
+    pub fn make_own(&mut self, alloc: Global) -> Result<(), NoMemory>
+        ensures bytes { page_bytes self.new ≡ page_bytes self.old }
+        ensures ok { OnOk result (is_own self.new ≡ true) }
+        ensures err { OnErr result (self.new ≡ self.old) }
+    {
+        let own = Box::new(alloc, *self.page())?;
+        *self = Owner::Own(own);
+        Ok(())
+    }
+
+    /// Shares the page, without a copy of it, and gives one more owner of it.
+    ///
+    /// # Errors
+    /// `NoMemory` where the count of owners finds no room; the page may be shared by then.
+    pub fn share(&mut self, alloc: Global) -> Result<Owner, NoMemory>
+        ensures bytes { page_bytes self.new ≡ page_bytes self.old }
+        ensures ok { IfOk result (λ other. (is_own self.new ≡ false) × (is_own other ≡ false) × (page_bytes other ≡ page_bytes self.old)) }
+        ensures err { OnErr result (is_own self.new ≡ true → is_own self.old ≡ true) }
+    {
+        match mem::replace_with(
+            self,
+            alloc,
+            |owner: Owner, alloc: Global| owner.into_shared(alloc),
+        ) {
+            Some(other) => Ok(Owner::Shared(other)),
+            None => Err(NoMemory),
+        }
+    }
+
+    /// The page shared, and one more owner of it where there is room for that.
+    fn into_shared(self, alloc: Global) -> (Owner, Option<Arc<Box<Page>>>)
+        ensures bytes { page_bytes result.0 ≡ page_bytes self }
+        ensures other { IfSome result.1 (λ other. (is_own result.0 ≡ false) × (other.value.value.bytes ≡ page_bytes self)) }
+        ensures none { IfNone result.1 (is_own result.0 ≡ true → is_own self ≡ true) }
+    {
+        match self {
+            Owner::Own(page) => match Arc::new(alloc, page) {
+                Ok(shared) => {
+                    let other = Arc::try_clone(&shared).ok();
+                    (Owner::Shared(shared), other)
+                }
+                Err(failed) => (Owner::Own(failed.value), None),
+            },
+            Owner::Shared(shared) => {
+                let other = Arc::try_clone(&shared).ok();
+                (Owner::Shared(shared), other)
+            }
+        }
+    }
+}
