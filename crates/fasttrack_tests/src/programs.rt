@@ -1,8 +1,10 @@
 //! Programs that run to an end of their own.
 
-use crate::call::{call, image_of, plain};
+use crate::call::{Given, call, image_of, plain};
 use fasttrack_program::{Answer, status};
 use guest_model::Trap;
+use rv32_asm::generate;
+use std::alloc::Global;
 use std::test::Fail;
 
 struct Row<'a> {
@@ -94,4 +96,65 @@ fn traps(rt: HostRuntime) -> Result<(), Fail> {
             row(&[0x0000_0067], b"", Answer::Trapped(Trap::FetchUnmapped, 0), 240, b"", "fasttrack: trap fetch at 00000000\n"),
         ],
     )
+}
+
+/// An image with segments beside headers of other types, which says hello.
+fn five_headers(alloc: Global) -> Result<Vec<u8>, Fail> {
+    let headers = [
+        [0x7000_0003, 0, 0, 0, 0],
+        [1, 0, 0x10000, 0xF8, 0xF8],
+        [1, 0xF8, 0x110F8, 6, 0x100],
+        [4, 0, 0, 0, 0],
+        [0x6474_E551, 0, 0, 0, 0],
+    ];
+    let words = [
+        0x0010_0513, 0x0001_15B7, 0x0F85_8593, 0x0060_0613, 0x0400_0893, 0x0000_0073, 0x0001_2503, 0x05D0_0893,
+        0x0000_0073u32,
+    ];
+    let mut image = Vec::new(alloc);
+    image.extend_from_slice(b"\x7FELF\x01\x01\x01\0\0\0\0\0\0\0\0\0")?;
+    for word in [0x00F3_0002u32, 1, 0x100D4, 52, 0, 0, 0x0020_0034, 5, 0] {
+        image.extend_from_slice(&word.to_le_bytes())?;
+    }
+    for [kind, offset, address, file_size, memory_size] in headers {
+        for word in [kind, offset, address, 0, file_size, memory_size, 7, 4u32] {
+            image.extend_from_slice(&word.to_le_bytes())?;
+        }
+    }
+    for word in words {
+        image.extend_from_slice(&word.to_le_bytes())?;
+    }
+    image.extend_from_slice(b"hello\n")?;
+    Ok(image)
+}
+
+#[test]
+fn other_headers_are_passed_over(rt: HostRuntime) -> Result<(), Fail> {
+    let image = five_headers(rt.alloc())?;
+    assert_eq!(rt; image.len(), 254);
+    let got = call(rt.alloc(), &plain(image.as_slice(), b""))?;
+    assert!(rt; got.answer == Answer::Exited(0) && got.out.as_slice() == b"hello\n".as_slice());
+    let counted = call(rt.alloc(), &Given { words: &["alone", "g", "--budget", "8"], ..plain(image.as_slice(), b"") })?;
+    assert!(rt; counted.answer == Answer::Spent);
+    Ok(())
+}
+
+#[test]
+fn generated_programs(rt: HostRuntime) -> Result<(), Fail> {
+    let image = generate(rt.alloc(), 1, 6)?;
+    let whole = call(rt.alloc(), &Given { words: &["alone", "g", "--budget", "180435"], ..plain(image.as_slice(), b"") })?;
+    assert!(rt; whole.answer == Answer::Exited(0));
+    let mut sums = Vec::new(rt.alloc());
+    for sum in [30003u32, 60027, 90072, 120138, 150225, 180333] {
+        sums.extend_from_slice(&sum.to_le_bytes())?;
+    }
+    assert!(rt; whole.out.as_slice() == sums.as_slice());
+    let cut = call(rt.alloc(), &Given { words: &["alone", "g", "--budget", "180434"], ..plain(image.as_slice(), b"") })?;
+    assert!(rt; cut.answer == Answer::Spent);
+    let bench = generate(rt.alloc(), 0, 64)?;
+    let all = call(rt.alloc(), &Given { words: &["alone", "g", "--budget", "1927078"], ..plain(bench.as_slice(), b"") })?;
+    assert!(rt; all.answer == Answer::Exited(0) && all.out.len() == 256);
+    let less = call(rt.alloc(), &Given { words: &["alone", "g", "--budget", "1927077"], ..plain(bench.as_slice(), b"") })?;
+    assert!(rt; less.answer == Answer::Spent);
+    Ok(())
 }
