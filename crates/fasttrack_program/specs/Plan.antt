@@ -2,13 +2,7 @@
 use Rattle.std.specs.Prelude.{◌≡◌, ℕ, Bool, nat_lt, if◌then◌else◌, List, [], length, Option, Some, None, Result, Ok, Err}
 use Rattle.guest_model.specs.Image.{Image, image}
 use Rattle.guest_model.specs.ImageFault.{Fault}
-
--- what the words ask for: the program alone, its image file, the budget of instructions, and whether the input is left
--- unread
-pub record Request : Type 0 where
-  pub image : List ℕ
-  pub budget : ℕ
-  pub no_input : Bool
+use Rattle.program_words.specs.CommandLine.{Request}
 
 -- why a call is refused before the guest runs
 pub data Refusal : Type 0 where

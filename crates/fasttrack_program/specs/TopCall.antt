@@ -7,7 +7,8 @@ use Rattle.guest_model.specs.declared.end.End.TheVariants as E
 use Rattle.elf32_loader.specs.FaultOf.{fault_of}
 use Rattle.elf32_loader.specs.declared.fault.ImageFault.{ImageFault}
 use Rattle.fasttrack_program.specs.GuestStreams.{Sinks, GetsAll, GetsPart, StopsShort, end_of}
-use Rattle.fasttrack_program.specs.Plan.{Request, Plan, Refused, Runs, BadWords, LongImage, BadFile, LongInput, plan}
+use Rattle.program_words.specs.CommandLine.{Request}
+use Rattle.fasttrack_program.specs.Plan.{Plan, Refused, Runs, BadWords, LongImage, BadFile, LongInput, plan}
 use Rattle.fasttrack_program.specs.Reading.{IsTold}
 use Rattle.fasttrack_program.specs.AnswerLine.{line_of, Tells}
 use Rattle.fasttrack_program.specs.declared.answer.Answer.{Answer}

@@ -1,4 +1,4 @@
-use Rattle.fasttrack_program.specs.Plan.{Request}
+use Rattle.program_words.specs.CommandLine.{Request}
 use Rattle.fasttrack_program.proofs.OnPlans.{served-image, served-input, served-no_input}
 use Rattle.fasttrack_program.proofs.serve.serve_alone.Goals as goal
 
