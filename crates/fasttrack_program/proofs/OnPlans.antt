@@ -145,13 +145,13 @@ served-runs r told_file told_input old new l bs a n h k v =
 
 -- what is said of a guest's end, or of a faulty image, holds of want of memory too
 no_memory_for : (p : Plan) (old new : Sinks) (a : Answer) → HasNumbers a → Serves p old new a → Serves p old new NoMemory
-no_memory_for (Runs i input budget) old new (Trapped trap pc) n h = record
-  { got = output_of (program_alone i input budget)
-  ; rest = []
-  ; parts = append-nil (output_of (program_alone i input budget))
-  ; gets = h.0.gets
-  ; calm = h.0.calm
-  }
+no_memory_for (Runs i input budget) old new (Trapped trap pc) n h = record {
+  got = output_of (program_alone i input budget);
+  rest = [];
+  parts = append-nil (output_of (program_alone i input budget));
+  gets = h.0.gets;
+  calm = h.0.calm;
+}
 no_memory_for (Refused r) old new (Trapped trap pc) n h = absurd h
 no_memory_for p old new (BadImage f) n h = subst (λ z. StaysWithin p old z) (sym h.1) (StaysWithin-refl p old)
 no_memory_for p old new (Exited c) n h = absurd n
@@ -165,21 +165,21 @@ no_memory_for p old new NoMemory n h = absurd n
 
 pub served-said : (r : Option Request) (told_file told_input : Option (List ℕ)) (old new : Sinks) (a said : Answer) → IsSaidFor a said → IsServed r told_file told_input old new a → IsServed r told_file told_input old new said
 served-said r told_file told_input old new a said (inl e) h = subst (λ x. IsServed r told_file told_input old new x) (sym e) h
-served-said r told_file told_input old new a said (inr e) h = record
-  { file = h.file
-  ; input = h.input
-  ; file_told = h.file_told
-  ; input_told = h.input_told
-  ; serves = subst (λ x. Serves (plan r h.file h.input) old new x) (sym e.0) (no_memory_for (plan r h.file h.input) old new a e.1 h.serves)
-  }
+served-said r told_file told_input old new a said (inr e) h = record {
+  file = h.file;
+  input = h.input;
+  file_told = h.file_told;
+  input_told = h.input_told;
+  serves = subst (λ x. Serves (plan r h.file h.input) old new x) (sym e.0) (no_memory_for (plan r h.file h.input) old new a e.1 h.serves);
+}
 
 -- the answer of a call, once its line was told
 pub answered : (r : Option Request) (told_file told_input : Option (List ℕ)) (old mid : Sinks) (notes : Option (List ℕ)) (faults : ℕ) (a result : Answer) → IsServed r told_file told_input old mid a → Concludes mid.notes notes mid.notes_faults faults a result → IsAnswered r told_file told_input old (record mid { notes = notes; notes_faults = faults }) result
-answered r told_file told_input old mid notes faults a result h c = record
-  { said = c.said
-  ; between = mid
-  ; served = served-said r told_file told_input old mid a c.said c.for_answer h
-  ; out = refl
-  ; out_faults = refl
-  ; tells = c.tells
-  }
+answered r told_file told_input old mid notes faults a result h c = record {
+  said = c.said;
+  between = mid;
+  served = served-said r told_file told_input old mid a c.said c.for_answer h;
+  out = refl;
+  out_faults = refl;
+  tells = c.tells;
+}
