@@ -1,4 +1,5 @@
 pub mod OnEither
 pub mod OnLeast
 pub mod OnPagePair
+pub mod OnShape
 pub mod OnWalk

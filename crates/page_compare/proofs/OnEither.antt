@@ -1,6 +1,6 @@
 -- Two rising lists of pages, walked together
-use Rattle.std.proofs.Common.{◌≡◌, ℕ, zero, suc, ◌+◌, ◌-◌, ◌<◌, ◌≤◌, ◌⊎◌, inl, inr, Bool, true, false, not, cond, ◌||◌, ◌==◌, List, [], ◌∷◌, length, get_or, drop, refl, sym, ◌∙◌, ap, subst, arith}
-use Rattle.std.specs.Prelude.{AllPairs, count_by, slice_index}
+use Rattle.std.proofs.Common.{◌≡◌, ℕ, suc, ◌+◌, ◌-◌, ◌<◌, ◌≤◌, inl, inr, Bool, true, false, not, cond, ◌||◌, ◌==◌, List, [], ◌∷◌, length, get_or, drop, refl, sym, ◌∙◌, ap, subst, arith}
+use Rattle.std.specs.Prelude.{AllPairs, count_by}
 use Rattle.std.proofs.lemmas.Bool.{cases_eq, cases_lt, false≢true, eqb-true}
 use Rattle.std.proofs.lemmas.Bool.Decides.{nat_tests}
 use Rattle.std.proofs.lemmas.List.{drop_more, get_or-drop, length-drop}
@@ -40,9 +40,9 @@ count-above x us [] h = refl
 count-above x us (w ∷ ws) h =
     let first : one (not (has (x ∷ us) w)) ≡ one (not (has us w)) = ap (λ (b : Bool). one (not (b || has us w))) (apart x w (h 0 (omega arith))) in
     sum_by-cons (λ (p : ℕ). one (not (has (x ∷ us) p))) w ws
-      ∙ ap (λ (n : ℕ). n + count_by (λ p. not (has (x ∷ us) p)) ws) first
-      ∙ ap (λ (n : ℕ). one (not (has us w)) + n) (count-above x us ws (above-tail x w ws h))
-      ∙ sym (sum_by-cons (λ (p : ℕ). one (not (has us p))) w ws)
+    ∙ ap (λ (n : ℕ). n + count_by (λ p. not (has (x ∷ us) p)) ws) first
+    ∙ ap (λ (n : ℕ). one (not (has us w)) + n) (count-above x us ws (above-tail x w ws h))
+    ∙ sym (sum_by-cons (λ (p : ℕ). one (not (has us p))) w ws)
 
 left : (x : ℕ) (us ws : List ℕ) → Above x ws → in_either (x ∷ us) ws ≡ 1 + in_either us ws
 left x us ws h = omega (arith, count-above x us ws h)
@@ -63,8 +63,9 @@ above-drop xs i x rises h k l =
     let size : length (drop i xs) ≡ length xs - i = length-drop i xs in
     let at : get_or (drop i xs) k 0 ≡ get_or xs (i + k) 0 = get_or-drop i xs k 0 in
     elim (cases_eq k 0) [
-      inl first ↦ let e : i + k ≡ i = omega (arith, first) in omega (arith, at, ap (λ (j : ℕ). get_or xs j 0) e, h (omega arith))
-    | inr later ↦ omega (arith, at, h (omega arith), rises i (i + k) 0 (omega (arith, later)) (omega arith)) ]
+      | inl first ↦ let e : i + k ≡ i = omega (arith, first) in omega (arith, at, ap (λ (j : ℕ). get_or xs j 0) e, h (omega arith))
+      | inr later ↦ omega (arith, at, h (omega arith), rises i (i + k) 0 (omega (arith, later)) (omega arith))
+    ]
 
 above-next : (xs : List ℕ) (i x : ℕ) → AllPairs (λ p q. p < q) xs → i < length xs → get_or xs i 0 ≡ x → Above x (drop (i + 1) xs)
 above-next xs i x rises l e = above-drop xs (i + 1) x rises (λ m. omega (arith, rises i (i + 1) 0 (omega arith) m))
@@ -101,12 +102,12 @@ place_of (x ∷ xs) p h = by_first x xs p (x == p) refl h (place_of xs p)
 
 not_past : (xs : List ℕ) (i k p page : ℕ) → AllPairs (λ q r. q < r) xs → i ≤ k → k < length xs → get_or xs k 0 ≡ p → p < page → (i < length xs → page ≤ get_or xs i 0) → ⊥
 not_past xs i k p page rises le l at low next = elim (cases_eq i k) [
-    inl same ↦ omega (arith, next (omega arith), ap (λ (j : ℕ). get_or xs j 0) same)
-  | inr other ↦ omega (arith, next (omega arith), rises i k 0 (omega (arith, other)) l) ]
+  | inl same ↦ omega (arith, next (omega arith), ap (λ (j : ℕ). get_or xs j 0) same)
+  | inr other ↦ omega (arith, next (omega arith), rises i k 0 (omega (arith, other)) l)
+]
 
 -- a page in a rising list that is below the one at i stands before it
 pub stands_before : (xs : List ℕ) (i page : ℕ) → AllPairs (λ p q. p < q) xs → (p : ℕ) → has xs p ≡ true → p < page → (i < length xs → page ≤ get_or xs i 0) → (k : ℕ) × (k < i) × (k < length xs) × (get_or xs k 0 ≡ p)
 stands_before xs i page rises p there l next =
     let at = place_of xs p there in
     (at.0, elim (cases_lt at.0 i) [ inl b ↦ b | inr b ↦ absurd (not_past xs i at.0 p page rises b at.1 at.2 l next) ], at.1, at.2)
-

@@ -1,6 +1,5 @@
 -- The lowest address whose bytes differ
-use Rattle.std.proofs.Common.{◌≡◌, ℕ, zero, suc, ◌+◌, ◌*◌, ◌/◌, ◌%◌, ◌^◌, ◌<◌, ◌≤◌, ◌⊎◌, inl, inr, Bool, true, false, not, cond, ◌==◌, Option, Some, None, refl, sym, ◌∙◌, ap, arith}
-use Rattle.std.proofs.Math.Path.{fun_ext}
+use Rattle.std.proofs.Common.{◌≡◌, ℕ, zero, suc, ◌^◌, ◌<◌, inl, inr, Bool, true, false, not, cond, ◌==◌, Option, Some, None, refl, sym, ◌∙◌, ap, arith}
 use Rattle.std.proofs.lemmas.Bool.{cases_eq, false≢true, cond-true, cond-false}
 use Rattle.std.proofs.lemmas.Bool.Decides.{nat_tests}
 use Rattle.guest_model.specs.ByteMap.{ByteMap}
@@ -17,12 +16,13 @@ pub least-some : (p : ℕ → Bool) (n q : ℕ) → q < n → p q ≡ true → (
 unfolding least
 least-some p zero q l here before = absurd (omega arith)
 least-some p (suc n) q l here before = elim (cases_eq q n) [
-    inl same ↦
+  | inl same ↦
       let rest : least p n ≡ None = least-none p n (λ k m. before k (omega arith)) in
       ap (λ (o : Option ℕ). or_else o (cond (p n) (Some n) None)) rest ∙ cond-true (p n) (Some n) None (ap p (sym same) ∙ here) ∙ ap Some (sym same)
   | inr other ↦
       let rest : least p n ≡ Some q = least-some p n q (omega (arith, other)) here before in
-      ap (λ (o : Option ℕ). or_else o (cond (p n) (Some n) None)) rest ]
+      ap (λ (o : Option ℕ). or_else o (cond (p n) (Some n) None)) rest
+]
 
 eqb-refl : (x : ℕ) → (x == x) ≡ true
 eqb-refl x = grind (arith, nat_tests)

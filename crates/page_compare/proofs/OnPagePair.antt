@@ -1,7 +1,7 @@
 -- One page in two byte maps
-use Rattle.std.proofs.Common.{◌≡◌, ℕ, ◌+◌, ◌*◌, ◌/◌, ◌%◌, ◌^◌, ◌<◌, ◌≤◌, ◌⊎◌, inl, inr, Bool, true, false, ◌==◌, List, length, get_or, Option, Some, None, is_some, refl, sym, ◌∙◌, ap, arith}
+use Rattle.std.proofs.Common.{◌≡◌, ℕ, ◌+◌, ◌*◌, ◌/◌, ◌%◌, ◌^◌, ◌<◌, false, ◌==◌, List, length, Option, Some, None, is_some, refl, sym, ◌∙◌, ap, arith}
 use Rattle.std.specs.Prelude.{slice_index}
-use Rattle.std.proofs.lemmas.Bool.{cases_lt, cases_eq, false≢true}
+use Rattle.std.proofs.lemmas.Bool.{false≢true}
 use Rattle.std.proofs.lemmas.Bool.Decides.{nat_tests}
 use Rattle.guest_model.specs.ByteMap.{ByteMap}
 use Rattle.guest_model.specs.Difference.{same_byte}
@@ -33,12 +33,12 @@ pub differs-at : (m n : ByteMap) (page k : ℕ) (x y : List ℕ) → IsPage m pa
 differs-at m n page k x y p q l ne before =
     let low : page < 2 ^ 20 = p.below in
     let size : length x ≡ 4096 = p.count in
-    record
-      { on_page = omega arith
-      ; space = omega arith
-      ; differs = ap (λ (o : Option ℕ). same_byte o (n (page * 4096 + k))) (p.each k (omega arith)) ∙ ap (same_byte (Some (slice_index x k))) (q.each k (omega arith)) ∙ unequal (slice_index x k) (slice_index y k) ne
-      ; below = λ i h. p.each i (omega arith) ∙ ap Some (before i (omega arith)) ∙ sym (q.each i (omega arith))
-      }
+    record {
+      on_page = omega arith;
+      space = omega arith;
+      differs = ap (λ (o : Option ℕ). same_byte o (n (page * 4096 + k))) (p.each k (omega arith)) ∙ ap (same_byte (Some (slice_index x k))) (q.each k (omega arith)) ∙ unequal (slice_index x k) (slice_index y k) ne;
+      below = λ i h. p.each i (omega arith) ∙ ap Some (before i (omega arith)) ∙ sym (q.each i (omega arith));
+    }
 
 -- the byte at an address of a page that is the same
 pub same-at : (m n : ByteMap) (q : ℕ) → SamePage m n (q / 4096) → m q ≡ n q

@@ -1,5 +1,5 @@
 -- When two byte maps are compared by their written pages
-use Rattle.std.specs.Prelude.{◌≡◌, ℕ, ◌+◌, ◌*◌, ◌/◌, ◌^◌, ◌<◌, ◌≤◌, ◌⊎◌, Bool, true, false, not, List, length, count_by, slice_index, Option, is_some}
+use Rattle.std.specs.Prelude.{◌≡◌, ℕ, ◌+◌, ◌*◌, ◌/◌, ◌^◌, ◌<◌, ◌≤◌, ◌⊎◌, false, not, List, length, count_by, slice_index, is_some}
 use Rattle.guest_model.specs.ByteMap.{ByteMap}
 use Rattle.guest_model.specs.Difference.{same_byte}
 use Rattle.paged_image.specs.WriteSet.{has}

@@ -6,6 +6,9 @@ ghost use Rattle.page_compare.specs.Comparison.{SameShape, AgreeOutside, SamePag
 use basic_types::Steps;
 use paged_image::PagedImage;
 
+#[cfg(test)]
+mod tests;
+
 /// The lowest address at which the images' bytes differ, None exactly where their contents are the same.
 ///
 /// Both have the same pages, and outside of both write sets their bytes are the same. One step is counted for each page
@@ -57,7 +60,12 @@ fn past_page(pages: &[u32], i: usize, page: u32) -> usize
 }
 
 /// Compares one page, which is one step. Only pages that one of the images has are compared.
-fn page_difference<L>(a: &PagedImage, b: &PagedImage, page: u32, steps: &mut Steps<L>) -> Option<u32>
+fn page_difference<L>(
+    a: &PagedImage,
+    b: &PagedImage,
+    page: u32,
+    steps: &mut Steps<L>,
+) -> Option<u32>
     requires shape { SameShape (content a.now) (content b.now) }
     requires room { steps.old < 2 ^ 64 - 1 }
     ensures step { steps.new ≡ steps.old + 1 }

@@ -1,11 +1,10 @@
-use Rattle.std.proofs.Common.{◌≡◌, ℕ, ◌+◌, ◌<◌, ◌≤◌, List, None, length, drop, refl, sym, ◌∙◌, ap, subst, arith}
+use Rattle.std.proofs.Common.{◌≡◌, ℕ, ◌<◌, List, refl, sym, ◌∙◌, ap, subst, arith}
 use Rattle.std.specs.Prelude.{AllPairs}
 use Rattle.std.proofs.Math.Path.{fun_ext}
-use Rattle.guest_model.specs.Difference.{byte_difference}
 use Rattle.paged_image.specs.Image.{content, written_of}
 use Rattle.page_compare.specs.Comparison.{AgreeOutside, in_either}
 use Rattle.page_compare.proofs.OnEither.{cost_step}
-use Rattle.page_compare.proofs.OnLeast.{difference-none, differs-apart}
+use Rattle.page_compare.proofs.OnLeast.{difference-none}
 use Rattle.page_compare.proofs.OnWalk.{done_next, lowest, all_same, one_left, nearer}
 use Rattle.page_compare.proofs.compare.first_difference.Goals as goal
 
@@ -35,7 +34,7 @@ returns-in-Some-page_difference-clause-lowest g c =
     let m = content c.args.a.now in
     let n = content c.args.b.now in
     let outside : AgreeOutside us ws m n =
-      subst (λ (xs : List ℕ). AgreeOutside xs ws m n) (sym is_us) (subst (λ (ys : List ℕ). AgreeOutside (written_of c.args.a.now) ys m n) (sym is_ws) c.requires.outside) in
+    subst (λ (xs : List ℕ). AgreeOutside xs ws m n) (sym is_us) (subst (λ (ys : List ℕ). AgreeOutside (written_of c.args.a.now) ys m n) (sym is_ws) c.requires.outside) in
     lowest m n us ws c.loop-page.i c.loop-page.j c.in-Some.page c.in-Some-page_difference.q up wp outside c.loop-page.invariant.1 c.loop-page.invariant.2 c.in-Some.ensures.some c.in-Some-page_difference.ensures.some
 
 pub returns-in-Some-page_difference-clause-steps : goal.returns-in-Some-page_difference-clause-steps
@@ -66,10 +65,11 @@ loop-page-preserved g c =
     let m = content c.args.a.now in
     let n = content c.args.b.now in
     let cost = cost_step us ws c.loop-page.i c.loop-page.j c.in-Some.page c.past_page-i.result c.past_page-j.result up wp c.in-Some.ensures.some c.past_page-i.ensures c.past_page-j.ensures in
-    let same = c.in_default-page_difference.ensures.none in
-    ( omega (arith, cost, c.loop-page.invariant.0, c.page_difference.ensures.step)
-    , done_next m n us c.loop-page.i c.in-Some.page c.past_page-i.result c.loop-page.invariant.1 same c.past_page-i.ensures
-    , done_next m n ws c.loop-page.j c.in-Some.page c.past_page-j.result c.loop-page.invariant.2 same c.past_page-j.ensures )
+    let same = c.in_default-page_difference.ensures.none in (
+      omega (arith, cost, c.loop-page.invariant.0, c.page_difference.ensures.step),
+      done_next m n us c.loop-page.i c.in-Some.page c.past_page-i.result c.loop-page.invariant.1 same c.past_page-i.ensures,
+      done_next m n ws c.loop-page.j c.in-Some.page c.past_page-j.result c.loop-page.invariant.2 same c.past_page-j.ensures,
+    )
 
 pub returns-clause-lowest : goal.returns-clause-lowest
 returns-clause-lowest g c =
@@ -82,7 +82,7 @@ returns-clause-lowest g c =
     let m = content c.args.a.now in
     let n = content c.args.b.now in
     let outside : AgreeOutside us ws m n =
-      subst (λ (xs : List ℕ). AgreeOutside xs ws m n) (sym is_us) (subst (λ (ys : List ℕ). AgreeOutside (written_of c.args.a.now) ys m n) (sym is_ws) c.requires.outside) in
+    subst (λ (xs : List ℕ). AgreeOutside xs ws m n) (sym is_us) (subst (λ (ys : List ℕ). AgreeOutside (written_of c.args.a.now) ys m n) (sym is_ws) c.requires.outside) in
     let ended = c.in_default.ensures.none in
     difference-none m n (all_same m n us ws c.loop-page.i c.loop-page.j up wp outside c.loop-page.invariant.1 c.loop-page.invariant.2 ended.0 ended.1)
 
@@ -97,6 +97,6 @@ returns-clause-none g c =
     let m = content c.args.a.now in
     let n = content c.args.b.now in
     let outside : AgreeOutside us ws m n =
-      subst (λ (xs : List ℕ). AgreeOutside xs ws m n) (sym is_us) (subst (λ (ys : List ℕ). AgreeOutside (written_of c.args.a.now) ys m n) (sym is_ws) c.requires.outside) in
+    subst (λ (xs : List ℕ). AgreeOutside xs ws m n) (sym is_us) (subst (λ (ys : List ℕ). AgreeOutside (written_of c.args.a.now) ys m n) (sym is_ws) c.requires.outside) in
     let ended = c.in_default.ensures.none in
     (λ _. fun_ext (all_same m n us ws c.loop-page.i c.loop-page.j up wp outside c.loop-page.invariant.1 c.loop-page.invariant.2 ended.0 ended.1), λ _. refl)
