@@ -4,5 +4,6 @@ pub mod Loads
 pub mod Programs
 pub mod ReadsBack
 pub mod Regions
+pub mod TableInRange
 pub mod UnboundLabels
 pub mod WordBytes

@@ -1,5 +1,5 @@
 -- The words of the generated program, region by region
-use Rattle.std.proofs.Common.{◌≡◌, ℕ, zero, suc, ◌+◌, ◌*◌, ◌<◌, ◌≤◌, Bool, true, false, List, [], ◌∷◌, ◌++◌, length, map, refl, sym, ap, ◌∙◌, arith, append-nil, append_assoc, add-zero, zero-add, length-append, get_or, ◌^◌, subst, Result}
+use Rattle.std.proofs.Common.{◌≡◌, ℕ, zero, suc, ◌+◌, ◌*◌, ◌<◌, ◌≤◌, true, false, List, [], ◌∷◌, ◌++◌, length, map, refl, sym, ap, ◌∙◌, arith, append-nil, append_assoc, add-zero, zero-add, length-append, get_or, ◌^◌, subst, Result}
 use Rattle.std.specs.Prelude.{◌==◌, if◌then◌else◌, pos, IfOk, IsOkAnd}
 use Rattle.std.specs.List.{flat_map, range_with_len}
 use Rattle.std.proofs.lemmas.List.{map-append, length-map}

@@ -7,6 +7,7 @@ mod constant;
 mod fault;
 mod formats;
 mod image;
+mod laws;
 mod linker;
 mod mnemonics;
 mod parts;
@@ -17,11 +18,10 @@ pub use benchmark::generate;
 pub use builder::Assembler;
 pub use fault::AsmFault;
 pub use image::small_image;
+pub use laws::table_gives_fields_in_range;
 pub use parts::Label;
 pub use range::is_in_range;
 pub use words::encode;
 
 #[cfg(test)]
 mod program_tests;
-#[cfg(test)]
-mod word_tests;

@@ -76,3 +76,46 @@ pub fn is_in_range(instruction: Instr) -> bool
         Instr::Fence | Instr::Ecall | Instr::Ebreak => true,
     }
 }
+
+#[cfg(test)]
+mod tests {
+    use super::is_in_range;
+    use crate::encode;
+    use guest_model::{Cond, ImmOp, Instr, UpperOp};
+
+    #[test]
+    fn tells_what_has_a_word(rt: HostRuntime) {
+        let last = Instr::Branch {
+            cond: Cond::Eq,
+            rs1: 0,
+            rs2: 31,
+            offset: -4096,
+        };
+        assert!(rt; is_in_range(last));
+        assert_eq!(rt; encode(last), 0x81F0_0063);
+        let refused = [
+            Instr::Upper {
+                op: UpperOp::Lui,
+                rd: 1,
+                imm: 0xFFF,
+            },
+            Instr::Jal { rd: 32, offset: 0 },
+            Instr::Jal { rd: 0, offset: 3 },
+            Instr::OpImm {
+                op: ImmOp::Add,
+                rd: 0,
+                rs1: 0,
+                imm: 2048,
+            },
+            Instr::OpImm {
+                op: ImmOp::Srl,
+                rd: 0,
+                rs1: 0,
+                imm: 32,
+            },
+        ];
+        for instruction in refused {
+            assert!(rt; !is_in_range(instruction));
+        }
+    }
+}

@@ -1,4 +1,4 @@
-use Rattle.std.proofs.Common.{◌≡◌, ◌+◌, ◌*◌, ◌∙◌, arith, refl, length, List, ℕ}
+use Rattle.std.proofs.Common.{◌+◌, ◌*◌, ◌∙◌, arith, refl, length, List, ℕ}
 use Rattle.rv32_asm.proofs.Regions.{HasPieces, around_is, around_loads}
 use Rattle.rv32_asm.proofs.benchmark.image_around.Goals as goal
 
