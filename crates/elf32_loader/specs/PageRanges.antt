@@ -34,11 +34,11 @@ pub record HasWholePages (h : Heap) : Type 0 where
   pub size : h.size % 4096 ≡ 0
   pub within : h.start + h.size ≤ 2 ^ 32
 
--- the byte that a file gives at an address in the page of one of its segments
+-- the byte at a mapped address: the file's, where a segment has one there, else 0
 abbrev pub file_byte : List ℕ → List Segment → ℕ → ℕ
 file_byte bs hs q = byte_from bs q (find (has_file_byte q) hs)
 
--- the same for one segment, above what is there without it
+-- the byte with one more segment in front of those that make the byte `below`
 abbrev pub byte_above : List ℕ → Segment → ℕ → ℕ → ℕ
 byte_above bs s q below = if has_file_byte q s then slice_index bs (s.offset + (q - s.address)) else below
 

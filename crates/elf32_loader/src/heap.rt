@@ -12,7 +12,8 @@ use guest_model::Heap;
 const HEAP_SIZE: u64 = 0x40_0000;
 
 /// The heap of an image with these segments. It starts on the page behind the last of them and ends at the stack, or
-/// behind the stack at 2^32, at the latest. Where there is no room for one it is empty at 0.
+/// behind the stack at 2^32, at the latest. Where no segment has a byte, or the last one ends in the last page, it is
+/// empty and starts at 0.
 pub fn heap_of(segments: &[Segment]) -> Heap
     requires { last_end segments.now ≤ 2 ^ 32 }
     ensures value { result ≡ heap_of segments.now }

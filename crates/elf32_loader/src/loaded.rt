@@ -14,7 +14,7 @@ pub struct Loaded {
     pub entry: u32,
     /// The initial memory: whole pages, in rising order and without a common address, the stack and the heap among them.
     pub areas: Areas,
-    /// The heap, which is empty at 0 where there is no room for one.
+    /// The heap: whole pages behind the last segment, at most 4 MiB and maybe none; the break stands at its start.
     pub heap: Heap,
     pub ghost layout: { IsLayout areas },
     pub ghost stack_is_mapped: { mapped (areas_bytes areas) stack_base (stack_end - stack_base) ≡ true },

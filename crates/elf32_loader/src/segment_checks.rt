@@ -1,11 +1,11 @@
 //! The checks of the program headers, of which there are at most 64.
 
 ghost use Rattle.std.specs.Prelude.{◌≡◌, ◌+◌, ◌≤◌, length, is_some, option_map, option_and_then};
+ghost use Rattle.std.specs.List.{list_any};
 ghost use Rattle.guest_model.specs.Difference.{first_some};
 ghost use Rattle.guest_model.specs.ImageFault as image;
 ghost use Rattle.guest_model.specs.ImageFault.{nth, first_place, first_overlap, overlaps_stack, is_bad, is_too_large, is_entry, segment_faults};
 ghost use Rattle.guest_model.specs.Segment.{is_dynamic, has_page};
-ghost use Rattle.std.specs.List.{list_any};
 ghost use Rattle.elf32_loader.specs.FaultOf.{Checks};
 
 use crate::address_space::{PAGE, STACK_BASE, STACK_END};
