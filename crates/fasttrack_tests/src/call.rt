@@ -8,6 +8,7 @@ use std::alloc::Global;
 use std::test::Fail;
 
 /// What a call is given: the image file `g`, the input, and which calls of which object fail.
+#[derive(Clone, Copy)]
 pub struct Given<'a> {
     pub image: &'a [u8],
     pub input: &'a [u8],
@@ -59,7 +60,7 @@ pub fn call(alloc: Global, given: &Given<'_>) -> Result<Got, Fail> {
     for word in given.words {
         words.push(String::from_str(alloc, word)?)?;
     }
-    let mut files = MemoryFiles::new(Vec::from_slice(alloc, given.failing_files)?);
+    let mut files = MemoryFiles::new(alloc, Vec::from_slice(alloc, given.failing_files)?);
     files.add(String::from_str(alloc, "g")?, bytes_of(alloc, given.image)?)?;
     let mut input = MemorySource::new(
         bytes_of(alloc, given.input)?,

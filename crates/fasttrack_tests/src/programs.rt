@@ -5,8 +5,10 @@ use fasttrack_program::{Answer, status};
 use guest_model::Trap;
 use rv32_asm::generate;
 use std::alloc::Global;
+use std::process::Abort;
 use std::test::Fail;
 
+#[derive(Drop)]
 struct Row<'a> {
     words: &'a [u32],
     input: &'a [u8],
@@ -41,14 +43,14 @@ pub const TWO_STREAMS: [u32; 11] = [
     0x0000_0513, 0x05D0_0893, 0x0000_0073,
 ];
 
-fn row<'a>(words: &'a [u32], input: &'a [u8], answer: Answer, status: u8, out: &'a [u8], notes: &'a str) -> Row<'a> {
+fn expected<'a>(words: &'a [u32], input: &'a [u8], answer: Answer, status: u8, out: &'a [u8], notes: &'a str) -> Row<'a> {
     Row { words, input, answer, status, out, notes }
 }
 
-fn check(rt: &HostRuntime, rows: &[Row<'_>]) -> Result<(), Fail> {
+fn check(rt: &impl Abort, alloc: Global, rows: &[Row<'_>]) -> Result<(), Fail> {
     for row in rows {
-        let image = image_of(rt.alloc(), row.words)?;
-        let got = call(rt.alloc(), &plain(image.as_slice(), row.input))?;
+        let image = image_of(alloc, row.words)?;
+        let got = call(alloc, &plain(image.as_slice(), row.input))?;
         assert!(rt; got.answer == row.answer);
         assert!(rt; status(&got.answer) == row.status);
         assert!(rt; got.out.as_slice() == row.out);
@@ -68,16 +70,17 @@ fn ends_of_their_own(rt: HostRuntime) -> Result<(), Fail> {
     ];
     check(
         &rt,
+        rt.alloc(),
         &[
-            row(&exit, b"", Answer::Exited(0), 0, b"", ""),
-            row(&one_byte, b"", Answer::Exited(1), 1, b"\x13", ""),
-            row(&SUM, b"", Answer::Exited(55), 55, b"", ""),
-            row(&SUM_TWICE, b"", Answer::Exited(0), 0, b"77", ""),
-            row(&ECHO, b"abc", Answer::Exited(0), 0, b"abc", ""),
-            row(&ECHO, b"", Answer::Exited(0), 0, b"", ""),
-            row(&TWO_STREAMS, b"", Answer::Exited(0), 0, b"\x13", "\x05"),
-            row(&moved_break, b"", Answer::Exited(69648), 16, b"", ""),
-            row(&last_break, b"", Answer::Exited(4263936), 0, b"", ""),
+            expected(&exit, b"", Answer::Exited(0), 0, b"", ""),
+            expected(&one_byte, b"", Answer::Exited(1), 1, b"\x13", ""),
+            expected(&SUM, b"", Answer::Exited(55), 55, b"", ""),
+            expected(&SUM_TWICE, b"", Answer::Exited(0), 0, b"77", ""),
+            expected(&ECHO, b"abc", Answer::Exited(0), 0, b"abc", ""),
+            expected(&ECHO, b"", Answer::Exited(0), 0, b"", ""),
+            expected(&TWO_STREAMS, b"", Answer::Exited(0), 0, b"\x13", "\x05"),
+            expected(&moved_break, b"", Answer::Exited(69648), 16, b"", ""),
+            expected(&last_break, b"", Answer::Exited(4263936), 0, b"", ""),
         ],
     )
 }
@@ -86,14 +89,15 @@ fn ends_of_their_own(rt: HostRuntime) -> Result<(), Fail> {
 fn traps(rt: HostRuntime) -> Result<(), Fail> {
     check(
         &rt,
+        rt.alloc(),
         &[
-            row(&[0x02C5_C533], b"", Answer::Trapped(Trap::Illegal, 0x10004), 240, b"", "fasttrack: trap illegal at 00010004\n"),
-            row(&[0x0000_1163], b"", Answer::Trapped(Trap::Illegal, 0x10004), 240, b"", "fasttrack: trap illegal at 00010004\n"),
-            row(&[0x0020_006F], b"", Answer::Trapped(Trap::Misaligned, 0x10000), 240, b"", "fasttrack: trap misaligned at 00010000\n"),
-            row(&[0x0000_2503], b"", Answer::Trapped(Trap::LoadUnmapped, 0x10000), 240, b"", "fasttrack: trap load at 00010000\n"),
-            row(&[0x0000_2023], b"", Answer::Trapped(Trap::StoreUnmapped, 0x10000), 240, b"", "fasttrack: trap store at 00010000\n"),
-            row(&[0x0010_0073], b"", Answer::Trapped(Trap::Breakpoint, 0x10000), 240, b"", "fasttrack: trap breakpoint at 00010000\n"),
-            row(&[0x0000_0067], b"", Answer::Trapped(Trap::FetchUnmapped, 0), 240, b"", "fasttrack: trap fetch at 00000000\n"),
+            expected(&[0x02C5_C533], b"", Answer::Trapped(Trap::Illegal, 0x10004), 240, b"", "fasttrack: trap illegal at 00010004\n"),
+            expected(&[0x0000_1163], b"", Answer::Trapped(Trap::Illegal, 0x10004), 240, b"", "fasttrack: trap illegal at 00010004\n"),
+            expected(&[0x0020_006F], b"", Answer::Trapped(Trap::Misaligned, 0x10000), 240, b"", "fasttrack: trap misaligned at 00010000\n"),
+            expected(&[0x0000_2503], b"", Answer::Trapped(Trap::LoadUnmapped, 0x10000), 240, b"", "fasttrack: trap load at 00010000\n"),
+            expected(&[0x0000_2023], b"", Answer::Trapped(Trap::StoreUnmapped, 0x10000), 240, b"", "fasttrack: trap store at 00010000\n"),
+            expected(&[0x0010_0073], b"", Answer::Trapped(Trap::Breakpoint, 0x10000), 240, b"", "fasttrack: trap breakpoint at 00010000\n"),
+            expected(&[0x0000_0067], b"", Answer::Trapped(Trap::FetchUnmapped, 0), 240, b"", "fasttrack: trap fetch at 00000000\n"),
         ],
     )
 }
