@@ -1,0 +1,3 @@
+pub mod SameReading
+pub mod SameFaults
+pub mod OnWords
