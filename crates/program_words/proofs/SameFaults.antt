@@ -1,6 +1,6 @@
 -- The faults that `clap` finds with the words are the same wherever the texts of the possible values lie.
-use Rattle.std.proofs.Common.{◌≡◌, ◌∙◌, ap, ap₂, refl, sym, ℕ, zero, suc, Bool, true, false, cond, List, [], ◌∷◌, Option, Some, None, codes, length, drop, map, is_some}
-use Rattle.std.specs.Prelude.{encode_utf8, slice_get, ◌&&◌, ◌||◌, ◌==◌, not}
+use Rattle.std.proofs.Common.{◌≡◌, ◌∙◌, ap, ap₂, refl, sym, ℕ, zero, suc, Bool, false, cond, List, [], ◌∷◌, Option, Some, None, codes, length, drop, is_some}
+use Rattle.std.specs.Prelude.{encode_utf8, slice_get, ◌&&◌, ◌||◌}
 use Rattle.std.specs.List.{list_any}
 use Rattle.std.specs.Option.{option_map_or}
 use Rattle.std.specs.Borrow.{Bor}
@@ -8,13 +8,12 @@ use Rattle.std.specs.Str.{bytes_eq, chars}
 use Rattle.clap.specs.Lexer.{long_of, short_of}
 use Rattle.clap.specs.Values.{same_text}
 use Rattle.clap.specs.ValueTests.{accepts}
-use Rattle.clap.specs.Kinds.{Kinds, or_else, range_kinds, value_kinds, values_kinds}
-use Rattle.clap.specs.declared.builder.ValueParser.{ValueParser}
+use Rattle.clap.specs.Kinds.{Kinds, or_else, range_kinds, values_kinds}
 use Rattle.clap.specs.declared.builder.ValueParser.TheVariants as vp
 use Rattle.clap.specs.declared.error.ErrorKind.TheVariants as kind
-use Rattle.clap.specs.Faults.{bundle_fault, bundle_step_fault, check_fault, default_fault, defaults_fault, entered_fault, fault_of, flag_word_fault, flags_fault, long_fault, option_fault, other_fault, positional_fault, react_fault, repeat_fault, settle_fault, short_fault, step_fault, stray_fault, turn_fault, use_fault, values_fault, walk_fault, word_fault}
-use Rattle.clap.specs.Simple.{Shape, built, entered}
-use Rattle.clap.specs.Walk.{Held, Names as CommandNames, Row, Rule, Step, Text, Waiting, Walk, arg_by_id, arg_by_index, arg_by_long, arg_by_short, attached_value, finished, has_row, is_pending, next, nothing_held, reacted, settled, subcommand, subcommand_met, takes_several, takes_values, texts, trailing, value, walk, walk_from, walked, word_met}
+use Rattle.clap.specs.Faults.{bundle_fault, bundle_step_fault, check_fault, defaults_fault, entered_fault, fault_of, flag_word_fault, flags_fault, long_fault, option_fault, other_fault, positional_fault, react_fault, repeat_fault, settle_fault, short_fault, step_fault, stray_fault, turn_fault, use_fault, walk_fault, word_fault}
+use Rattle.clap.specs.Simple.{built, entered}
+use Rattle.clap.specs.Walk.{Held, Names as CommandNames, Row, Rule, Step, Text, Waiting, Walk, arg_by_id, arg_by_index, arg_by_long, arg_by_short, attached_value, finished, is_pending, next, nothing_held, settled, subcommand, subcommand_met, takes_several, takes_values, texts, trailing, value, walk, walk_from, walked, word_met}
 use Rattle.program_words.specs.CommandLine.{HeldTexts, command_with}
 use Rattle.program_words.proofs.SameReading.{built_shape, by_id, by_index, finished_same, first_rule, reacted_same, rules, settled_same, walk_same, walked_same, word_same}
 

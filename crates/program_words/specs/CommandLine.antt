@@ -1,9 +1,11 @@
 -- The command line of the program, as a simple command of `clap`, and the request that words make of it
-use Rattle.std.specs.Prelude.{ℕ, Bool, true, List, [], ◌∷◌, Option, Some, None, codes, unwrap_or}
+use Rattle.std.specs.Prelude.{◌≡◌, ◌≤◌, ◌⊎◌, ℕ, Bool, true, List, [], ◌∷◌, Option, Some, None, codes, unwrap_or}
 use Rattle.std.specs.Borrow.{Bor}
 use Rattle.std.specs.Str.{bytes_eq}
-use Rattle.std.specs.Str.Parse.{digits_value, without_leading_plus}
+use Rattle.std.specs.Str.Parse.{digits_value, IsNumeral, without_leading_plus}
 use Rattle.clap.specs.Words.{App, Kinds, Row, Rule, Text, fault_of, first_of, matches_of, new_app, new_rule, with_rule}
+use Rattle.clap.specs.Matches.{first_value, one_text}
+use Rattle.clap.specs.declared.parser.matches.Found.{Found}
 use Rattle.clap.specs.declared.builder.ArgAction.TheVariants.{SetTrue}
 use Rattle.clap.specs.declared.builder.ValueParser.TheVariants.{Bool as BoolParser, Names, Unsigned}
 
@@ -90,3 +92,19 @@ unless_faulty (k ∷ ks) request = None
 -- what asks for help.
 abbrev pub request_of : List Text → Option Request
 request_of words = unless_faulty (fault_of command words) (request_in (matches_of command words))
+
+-- ---- the values
+
+-- a number in digits, from 1 to 2^40
+abbrev pub InBudget : Text → Type 0
+InBudget text = IsNumeral 10 (without_leading_plus text) × (1 ≤ number_of text) × (number_of text ≤ 1099511627776)
+
+-- `--budget` has a value, given or by default, and it is in its range
+abbrev pub HasBudget : Found → Type 0
+HasBudget f = (text : Text) × (first_value f (codes "budget") ≡ Some text)
+    × (one_text f (codes "budget") ≡ Some text) × InBudget text
+
+-- a value of `--no-input` is one of the two words for a flag
+abbrev pub HasFlag : Found → Type 0
+HasFlag f = (text : Text) → first_value f (codes "no-input") ≡ Some text
+    → (one_text f (codes "no-input") ≡ Some text) × ((text ≡ codes "true") ⊎ (text ≡ codes "false"))

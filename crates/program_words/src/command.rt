@@ -11,9 +11,6 @@ use std::alloc::{AllocError, Global};
 /// The names that COMMAND may have.
 static TASKS: [&str; 1] = ["alone"];
 
-/// The largest budget, 2^40 instructions, which is also the one taken where none is given.
-pub const MOST_BUDGET: u64 = 1_099_511_627_776;
-
 fn command_arg<'a>(alloc: Global) -> Arg<'a>
     ensures rule { (names : HeldTexts) × (texts names.now ≡ texts task_names.now) × (rule_of result ≡ command_rule names) }
     ensures local { result.global ≡ false }

@@ -1,10 +1,10 @@
 //! What the words ask for.
 
-ghost use Rattle.std.specs.Prelude.{◌≡◌, Some, None, Err, IfOk, is_some, map, string_bytes, true};
+ghost use Rattle.std.specs.Prelude.{◌≡◌, ◌≤◌, ◌^◌, Some, None, Err, IfOk, bytes_eq, codes, map, string_bytes};
 ghost use Rattle.clap.specs.Words.{found_of, rows_of};
-ghost use Rattle.program_words.specs.CommandLine.{request_in, request_of};
+ghost use Rattle.program_words.specs.CommandLine.{HasBudget, HasFlag, number_of, request_in, request_of, value_of};
 
-use crate::command::{MOST_BUDGET, command};
+use crate::command::command;
 use clap::ArgMatches;
 use clap::error::ErrorKind;
 use std::alloc::{AllocError, Global};
@@ -56,14 +56,16 @@ impl From<AllocError> for WordsFault {
 /// `Usage` exactly where `clap` finds a fault with the words, `NoMemory` where there was no room.
 pub fn read_words<'a>(alloc: Global, words: &'a [String]) -> Result<Request<'a>, WordsFault>
     ensures usage { result ≡ Err WordsFault.Usage → request_of (map string_bytes words.now) ≡ None }
-    ensures accepts { IfOk result (λ _. is_some (request_of (map string_bytes words.now)) ≡ true) }
+    ensures ok { IfOk result (λ r. request_of (map string_bytes words.now)
+        ≡ Some (record { image = r.image.now; budget = r.budget; no_input = r.no_input })) }
+    ensures bounds { IfOk result (λ r. (1 ≤ r.budget) × (r.budget ≤ 2 ^ 40)) }
 {
     let matches = parse_words(alloc, words)?;
     Ok(Request {
         task: Task::Alone,
-        image: matches.get_str("IMAGE").unwrap_or(""),
-        budget: matches.get_one::<u64>("budget").unwrap_or(MOST_BUDGET),
-        no_input: matches.get_flag("no-input"),
+        image: image_in(&matches),
+        budget: budget_in(&matches),
+        no_input: no_input_in(&matches),
     })
 }
 
@@ -71,6 +73,7 @@ pub fn read_words<'a>(alloc: Global, words: &'a [String]) -> Result<Request<'a>,
 fn parse_words<'a>(alloc: Global, words: &'a [String]) -> Result<ArgMatches<'a>, WordsFault>
     ensures usage { result ≡ Err WordsFault.Usage → request_of (map string_bytes words.now) ≡ None }
     ensures rows { IfOk result (λ m. request_of (map string_bytes words.now) ≡ Some (request_in (rows_of (found_of m)))) }
+    ensures values { IfOk result (λ m. HasBudget (found_of m) × HasFlag (found_of m)) }
 {
     let mut command = command(alloc)?;
     match command.try_get_matches_from_mut(words) {
@@ -78,4 +81,29 @@ fn parse_words<'a>(alloc: Global, words: &'a [String]) -> Result<ArgMatches<'a>,
         Err(error) if error.kind() == ErrorKind::OutOfMemory => Err(WordsFault::NoMemory),
         Err(_) => Err(WordsFault::Usage),
     }
+}
+
+// The path of the image file. It is required, so it is never left out.
+fn image_in<'a>(matches: &ArgMatches<'a>) -> &'a str
+    ensures { result.now ≡ value_of (codes "IMAGE") (rows_of (found_of matches.now)) }
+{
+    matches.get_str("IMAGE").unwrap_or("")
+}
+
+fn budget_in(matches: &ArgMatches<'_>) -> u64
+    requires { HasBudget (found_of matches.now) }
+    ensures value { result ≡ number_of (value_of (codes "budget") (rows_of (found_of matches.now))) }
+    ensures bounds { (1 ≤ result) × (result ≤ 2 ^ 40) }
+{
+    match matches.get_one::<u64>("budget") {
+        Some(budget) => budget,
+        None => unreachable!(),
+    }
+}
+
+fn no_input_in(matches: &ArgMatches<'_>) -> bool
+    requires { HasFlag (found_of matches.now) }
+    ensures { result ≡ bytes_eq (value_of (codes "no-input") (rows_of (found_of matches.now))) (codes "true") }
+{
+    matches.get_flag("no-input")
 }

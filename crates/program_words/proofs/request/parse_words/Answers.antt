@@ -1,4 +1,5 @@
-use Rattle.std.proofs.Common.{◌≡◌, ◌∙◌, sym, ap, true, false, true≢false}
+use Rattle.std.proofs.Common.{◌≡◌, ◌∙◌, sym, true, true≢false, inl, inr}
+use Rattle.program_words.proofs.ByCommand.{budget_there, flag_there, is_command, no_globals}
 use Rattle.program_words.proofs.OnWords.{grants, refuses, simple_app, simple_command}
 use Rattle.program_words.proofs.request.parse_words.Goals as goal
 
@@ -6,6 +7,17 @@ pub returns-in-Ok-clause-rows : goal.returns-in-Ok-clause-rows
 returns-in-Ok-clause-rows c =
     let made = c.in_ok-command.ensures in
     grants made.0 made.1 _ made.2 _ _ (c.in-Ok.ensures.kinds (simple_app made.0 _ made.2)) (c.in-Ok.ensures.ok.2 (simple_command made.0 _ made.2)).0
+
+pub returns-in-Ok-clause-values : goal.returns-in-Ok-clause-values
+returns-in-Ok-clause-values c =
+    let made = c.in_ok-command.ensures in
+    elim c.in-Ok.ensures.after [
+      | inl broken ↦ absurd (c.in-Ok.ensures.fails broken)
+      | inr kept ↦
+          let is = is_command made.0 _ _ made.2 kept.2 in
+          let parsed = c.in-Ok.ensures.ok.1 (no_globals made.0 _ is) in
+          (budget_there made.0 _ is _ _ parsed, flag_there made.0 _ is _ _ parsed)
+    ]
 
 pub returns-clause-usage : goal.returns-clause-usage
 returns-clause-usage c = λ e.
