@@ -1,0 +1,5 @@
+pub mod SameReading
+pub mod SameFaults
+pub mod OnWords
+pub mod Values
+pub mod ByCommand

@@ -1,0 +1,7 @@
+//! The words of the program, read by `clap` as one simple command.
+#![tactic(auto)]
+
+mod command;
+mod request;
+
+pub use request::{Request, Task, WordsFault, read_words};
