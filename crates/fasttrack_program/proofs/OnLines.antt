@@ -1,6 +1,6 @@
 -- The line of an answer
-use Rattle.std.proofs.Common.{◌≡◌, ℕ, List, Option, Some, None, ◌⊎◌, inl, inr, refl, sym, subst}
-use Rattle.fasttrack_program.specs.AnswerLine.{line_of, Tells, TellsLine, Concludes, IsSaidFor}
+use Rattle.std.proofs.Common.{◌≡◌, ℕ, List, Option, Some, None, inl, refl, sym, subst}
+use Rattle.fasttrack_program.specs.AnswerLine.{line_of, Tells, TellsLine, Concludes}
 use Rattle.fasttrack_program.specs.declared.answer.Answer.{Answer}
 
 -- a line that is the answer's own

@@ -1,17 +1,16 @@
 -- From what was read and run to the plan of the call
-use Rattle.std.proofs.Common.{◌≡◌, ℕ, ◌<◌, ◌≤◌, Bool, true, false, List, [], ◌++◌, length, Option, Some, None, Result, Ok, Err, ◌⊎◌, inl, inr, refl, sym, ap, ◌∙◌, subst, append-nil, arith}
+use Rattle.std.proofs.Common.{◌≡◌, ℕ, ◌<◌, true, false, List, [], length, Option, Some, None, Ok, Err, inl, inr, refl, sym, ap, ◌∙◌, subst, append-nil, arith}
 use Rattle.std.specs.Prelude.{nat_lt}
 use Rattle.std.proofs.lemmas.Bool.{lt-ltb}
 use Rattle.std.proofs.lemmas.Bool.Decides.{nat_tests}
 use Rattle.speculation.specs.Record.{output_of}
-use Rattle.elf32_loader.specs.FaultOf.{fault_of}
 use Rattle.elf32_loader.specs.LoadedImage.{image_of_loaded}
 use Rattle.elf32_loader.specs.declared.loaded.Loaded.{Loaded}
 use Rattle.basic_types.specs.declared.bytes.Bytes.{Bytes}
 use Rattle.guest_model.specs.Image.{Image, program_alone}
-use Rattle.fasttrack_program.specs.GuestStreams.{Sinks, GetsPart}
+use Rattle.fasttrack_program.specs.GuestStreams.{Sinks}
 use Rattle.program_words.specs.CommandLine.{Request}
-use Rattle.fasttrack_program.specs.Plan.{Plan, Refused, Runs, BadWords, LongImage, BadFile, LongInput, Refusal, image_in, input_limit, with_image, with_input, plan}
+use Rattle.fasttrack_program.specs.Plan.{Plan, Refused, Runs, LongInput, image_in, input_limit, with_image, with_input, plan}
 use Rattle.fasttrack_program.specs.Reading.{IsTold, ReadsImage, ReadsInput}
 use Rattle.fasttrack_program.specs.AnswerLine.{HasNumbers, IsSaidFor, Concludes}
 use Rattle.fasttrack_program.specs.TopCall.{StaysWithin, Serves, IsServed, IsAnswered}

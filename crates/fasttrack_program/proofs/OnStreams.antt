@@ -1,10 +1,10 @@
 -- A guest's output on two sinks, as its run goes on
-use Rattle.std.proofs.Common.{◌≡◌, ℕ, zero, suc, ◌+◌, ◌-◌, ◌<◌, ◌≤◌, List, [], ◌∷◌, ◌++◌, length, take, drop, Option, Some, None, Result, Ok, Err, ◌⊎◌, inl, inr, refl, sym, ap, ◌∙◌, subst, append_assoc, append-nil, add-one, arith, take-append-drop, length-drop}
+use Rattle.std.proofs.Common.{◌≡◌, ℕ, suc, ◌+◌, ◌-◌, ◌<◌, List, [], ◌∷◌, ◌++◌, length, take, drop, Option, Some, Result, Ok, Err, ◌⊎◌, inl, inr, refl, sym, ap, ◌∙◌, subst, append_assoc, append-nil, add-one, arith, take-append-drop, length-drop}
 use Rattle.std.specs.Io.KnownBytes.{Appends}
 use Rattle.std.proofs.KnownBytes.{Appends-nil, Appends-trans}
 use Rattle.speculation.specs.Machine.{Machine, Stepped, Next, Ends}
-use Rattle.speculation.specs.Run.{Mark, Piece, Point, marked, marks, stream_bytes, fresh, go, pieces, piece_of, wrote, out}
-use Rattle.speculation.specs.Record.{Ran, alone, output_of}
+use Rattle.speculation.specs.Run.{Mark, Point, marked, marks, stream_bytes, fresh, go, pieces, piece_of, wrote, out}
+use Rattle.speculation.specs.Record.{alone, output_of}
 use Rattle.speculation.proofs.Runs.{go-next, go-ends, go-stays, pieces-stay}
 use Rattle.speculation.proofs.Outputs.{marks-append, stream_bytes-append, out-add}
 use Rattle.speculation.proofs.Records.{output-alone, end-alone}

@@ -1,5 +1,5 @@
 -- What a call of the program is to do, from its words, its image file and its input
-use Rattle.std.specs.Prelude.{◌≡◌, ℕ, Bool, nat_lt, if◌then◌else◌, List, [], length, Option, Some, None, Result, Ok, Err}
+use Rattle.std.specs.Prelude.{ℕ, nat_lt, if◌then◌else◌, List, [], length, Option, Some, None, Result, Ok, Err}
 use Rattle.guest_model.specs.Image.{Image, image}
 use Rattle.guest_model.specs.ImageFault.{Fault}
 use Rattle.program_words.specs.CommandLine.{Request}

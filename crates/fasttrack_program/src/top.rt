@@ -3,7 +3,7 @@
 ghost use Rattle.std.specs.Prelude.{◌≡◌, ◌⊎◌, true, None, Some, IfSome, map, string_bytes};
 ghost use Rattle.host_io.specs.Faults.{Rose};
 ghost use Rattle.program_words.specs.CommandLine.{request_of};
-ghost use Rattle.fasttrack_program.specs.TopCall.{IsAnswered, IsRefusedEarly, told_of};
+ghost use Rattle.fasttrack_program.specs.TopCall.{IsAnswered, IsServed, IsRefusedEarly, told_of};
 
 use crate::answer::Answer;
 use crate::answer_line::conclude;
@@ -38,19 +38,43 @@ pub fn plain_main<F: Files, I: Source, O: Sink, N: Sink>(
     ensures idle { request_of (map string_bytes words.now) ≡ None → (files.new ≡ files.old) × (input.new ≡ input.old) }
     ensures held { F.contents files.new ≡ F.contents files.old }
 {
-    let answer = match read_words(alloc, words) {
-        Ok(request) => serve_alone(
-            alloc,
-            request.image,
-            request.budget,
-            request.no_input,
-            files,
-            input,
-            out,
-            notes,
-        ),
-        Err(WordsFault::Usage) => Answer::Usage,
-        Err(WordsFault::NoMemory) => Answer::NoMemory,
-    };
+    let answer = serve_words(alloc, words, files, input, out, notes);
     conclude(alloc, answer, notes)
+}
+
+/// All but the answer's line.
+fn serve_words<F: Files, I: Source, O: Sink, N: Sink>(
+    alloc: Global,
+    words: &[String],
+    files: &mut F,
+    input: &mut I,
+    out: &mut O,
+    notes: &mut N,
+) -> Answer
+    ensures served { let request = request_of (map string_bytes words.now) in
+        IsServed request (told_of (F.contents files.old) request) (I.remaining input.old)
+        (record { out = O.contents out.old; out_faults = O.faults out.old; notes = N.contents notes.old; notes_faults = N.faults notes.old })
+        (record { out = O.contents out.new; out_faults = O.faults out.new; notes = N.contents notes.new; notes_faults = N.faults notes.new })
+        result }
+    ensures read_fault { result ≡ Answer.ReadFault → Rose (F.faults files.old) (F.faults files.new) ⊎ Rose (I.faults input.old) (I.faults input.new) }
+    ensures unread { IfSome (request_of (map string_bytes words.now)) (λ r. r.no_input ≡ true → input.new ≡ input.old) }
+    ensures early { IsRefusedEarly result → input.new ≡ input.old }
+    ensures idle { request_of (map string_bytes words.now) ≡ None → (files.new ≡ files.old) × (input.new ≡ input.old) }
+    ensures held { F.contents files.new ≡ F.contents files.old }
+{
+    let request = match read_words(alloc, words) {
+        Ok(request) => request,
+        Err(WordsFault::Usage) => return Answer::Usage,
+        Err(WordsFault::NoMemory) => return Answer::NoMemory,
+    };
+    serve_alone(
+        alloc,
+        request.image,
+        request.budget,
+        request.no_input,
+        files,
+        input,
+        out,
+        notes,
+    )
 }

@@ -1,4 +1,4 @@
-use Rattle.std.proofs.Common.{◌≡◌, Some, None, refl, sym, ap, ◌∙◌}
+use Rattle.std.proofs.Common.{Some, sym, ap, ◌∙◌}
 use Rattle.fasttrack_program.specs.AnswerLine.{line_of}
 use Rattle.fasttrack_program.proofs.OnLines.{Concludes-own, Concludes-same, Concludes-silent}
 use Rattle.fasttrack_program.specs.declared.answer.Answer.TheVariants.{Trapped, BadImage}
