@@ -27,6 +27,7 @@ pub mod SerialSoFar
 pub mod Fates
 pub mod Weights
 pub mod SerialRounds
+pub mod Lendables
 pub mod Progress
 pub mod SerialEnds
 pub mod Prefixes

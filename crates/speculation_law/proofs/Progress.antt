@@ -16,6 +16,7 @@ use Rattle.speculation_law.specs.Sound.{Good}
 use Rattle.speculation_law.proofs.Pieces.{marks_upto-all}
 use Rattle.speculation_law.proofs.Dues.{Unfinished}
 use Rattle.speculation_law.proofs.Judging.{tail-open}
+use Rattle.speculation_law.proofs.Lendables.{unlendable-here, lead-unlendable}
 use Rattle.speculation_law.proofs.SerialRounds.{Solo, solo-home}
 use Rattle.speculation_law.proofs.Fronts.{unfinished-unspent, unfinished-case, within-by, below-by}
 
@@ -90,20 +91,6 @@ module _ {S E D : Type 0} (m : Machine S E D) (b : Settings) where
   normal-found c r rs is =
       ap₂ (λ p (xs : List (Region S)). track_by p true (nat_eq r.number c.last) (find_normal r.number xs) c.lead) (eq-eqb c.generation c.generation refl) is
       ∙ ap (λ t. if t then Some r.normal else find_normal r.number rs) (eq-eqb r.number r.number refl)
-
-  -- where no name is lendable
-
-  none-by : (k : Name) (rest : Option Name) (t : Bool) → (if t then Some k else rest) ≡ None → t ≡ false
-  none-by k rest true h = absurd (cc)
-  none-by k rest false h = refl
-
-  rest-by : (k : Name) (rest : Option Name) (t : Bool) → (if t then Some k else rest) ≡ None → rest ≡ None
-  rest-by k rest true h = absurd (cc)
-  rest-by k rest false h = h
-
-  lead-unlendable : (c : Core S E D) (rs : List (Region S)) → first_lendable m b c rs ≡ None → lendable m b c (lead_name c) ≡ false
-  lead-unlendable c [] h = none-by (lead_name c) None (lendable m b c (lead_name c)) h
-  lead-unlendable c (r ∷ rs) h = lead-unlendable c rs (rest-by (normal_name c r) (first_lendable m b c rs) (lendable m b c (normal_name c r)) h)
 
   -- A front that is stuck
 
@@ -248,7 +235,7 @@ module _ {S E D : Type 0} (m : Machine S E D) (b : Settings) where
           let none_answer = judgement-none r rs (front_home (record c { regions = r ∷ rs }) && at_boundary m r.normal) (judge r.normal.own (seen m r.part (track_point m r.normal).state c.lead)) unjudged
           (and_from (front_home (record c { regions = r ∷ rs })) (at_boundary m r.normal) home is) in
           stuck-fast start c r rs g live solo uncrossed is (omega arith) (seen-running r.normal.own r.part (track_point m r.normal).state c.lead (judge-none r.normal.own (seen m r.part (track_point m r.normal).state c.lead) none_answer))
-          (lead-unlendable (record c { regions = r ∷ rs }) (r ∷ rs) unlendable)
+          (lead-unlendable m b (record c { regions = r ∷ rs }) (r ∷ rs) unlendable)
       stuck-so false is home going case_of le empty =
           let kind : r.normal.kind ≡ Normal = g.chain.normal.kind in
           let closed : (is_kind r.normal.kind Normal && at_boundary m r.normal) ≡ false = and_right (is_kind r.normal.kind Normal) (at_boundary m r.normal) is in
@@ -257,13 +244,13 @@ module _ {S E D : Type 0} (m : Machine S E D) (b : Settings) where
           = ap (λ x. if is_kind x Fast then wanted m (record c { regions = r ∷ rs }) (r ∷ rs) else true) kind in
           let lends : lendable m b (record c { regions = r ∷ rs }) (normal_name c r) ≡ true
           = lendable-so (record c { regions = r ∷ rs }) (normal_name c r) r.normal live (normal-found (record c { regions = r ∷ rs }) r rs refl) home (no-stop r.normal is going (omega arith)) (few r.normal.held empty) useful in
-          let not_lends = none-by (normal_name c r) (first_lendable m b (record c { regions = r ∷ rs }) rs) (lendable m b (record c { regions = r ∷ rs }) (normal_name c r)) unlendable in cc
+          let not_lends = unlendable-here (normal_name c r) (first_lendable m b (record c { regions = r ∷ rs }) rs) (lendable m b (record c { regions = r ∷ rs }) (normal_name c r)) unlendable in cc
 
   stuck-by : (start : S) (c : Core S E D) (rs : List (Region S)) → c.regions ≡ rs → Good m b start (record c { regions = rs }) → over c ≡ false → Solo c → 0 < b.tracks
       → NoneChosen (finish_test m b c.base (front_home (record c { regions = rs })) (front_of rs c.lead)) (cross_test m c) (verdict_due m (record c { regions = rs }) rs) (fork_test m b (record c { regions = rs }))
       → length (verified b (record c { regions = rs })) ≤ 0 → first_lendable m b (record c { regions = rs }) rs ≡ None → ⊥
   stuck-by start c [] is g live solo some chosen shown unlendable =
-      stuck-lead_by start c (at_boundary m c.lead) refl g live solo some chosen.unfinished chosen.unforked shown (lead-unlendable (record c { regions = [] }) [] unlendable)
+      stuck-lead_by start c (at_boundary m c.lead) refl g live solo some chosen.unfinished chosen.unforked shown (lead-unlendable m b (record c { regions = [] }) [] unlendable)
   stuck-by start c (r ∷ rs) is g live solo some chosen shown unlendable =
       stuck-regions_by start c r rs (at_boundary m r.normal) refl g live solo chosen.unfinished chosen.uncrossed chosen.unjudged shown unlendable
 

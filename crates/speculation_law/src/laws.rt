@@ -1,5 +1,5 @@
 //! The laws of histories at the toy machine, each the contract of a function that does nothing.
-ghost use Rattle.std.specs.Prelude.{◌≡◌, ◌<◌, ℕ, List, ◌++◌, Some, None};
+ghost use Rattle.std.specs.Prelude.{◌≡◌, ◌<◌, ℕ, List, ◌++◌, Some, None, true, false};
 ghost use Rattle.speculation.specs.declared.tracks.Name.{Name};
 ghost use Rattle.speculation.specs.declared.tracks.OpenLoan.{OpenLoan};
 ghost use Rattle.speculation.specs.declared.history.Settings.{Settings};
@@ -12,9 +12,9 @@ ghost use Rattle.speculation.specs.Record.{alone, IsPrefixOf};
 ghost use Rattle.speculation.specs.Verdicts.{Seen, Judged, judge, verdict};
 ghost use Rattle.speculation.specs.Ledger.{Row, ledger};
 ghost use Rattle.speculation.specs.Core.{Core, Finished, find_loan};
-ghost use Rattle.speculation.specs.Events.{core_run};
+ghost use Rattle.speculation.specs.Events.{lendable, core_run};
 ghost use Rattle.speculation.specs.Law.{IsHistory, IsPartial, IsComplete};
-ghost use Rattle.speculation.specs.Serial.{serial_next, IsSerial};
+ghost use Rattle.speculation.specs.Serial.{first_lendable, serial_next, IsSerial};
 ghost use Rattle.speculation.specs.Loans.{IsForeign};
 ghost use Rattle.speculation.specs.Toy.{toy};
 ghost use Rattle.speculation_law.specs.Sees.{Sees};
@@ -89,4 +89,12 @@ pub fn serial_history_grows()
     ensures whole { (program : List Instruction) (b : Settings) (start : State) (entries : List Entry) (c : Core State End Difference) →
         IsSerialSoFar (toy program) b start entries → IsHistory (toy program) b start entries c →
         serial_next (toy program) b c ≡ None → IsSerial (toy program) b start entries }
+{}
+
+/// The first lendable name is lendable, and where there is none, no name is.
+pub fn first_lendable_is_found()
+    ensures found { (program : List Instruction) (b : Settings) (c : Core State End Difference) (n : Name) →
+        first_lendable (toy program) b c c.regions ≡ Some n → lendable (toy program) b c n ≡ true }
+    ensures none { (program : List Instruction) (b : Settings) (c : Core State End Difference) (n : Name) →
+        first_lendable (toy program) b c c.regions ≡ None → lendable (toy program) b c n ≡ false }
 {}
