@@ -7,11 +7,10 @@ use Rattle.std.proofs.Math.ListN.{set}
 use Rattle.std.proofs.Math.Path.{fun_ext}
 use Rattle.std.proofs.lemmas.Bool.{cases_eq, cases_lt, cond-false}
 use Rattle.std.proofs.lemmas.List.{get_or-take, get_or_push, length_push, length-take-le}
-use Rattle.std.proofs.lemmas.List.Elements.{All-cons, All-nil}
 use Rattle.std.proofs.lemmas.List.Folds.{find-append}
 use Rattle.std.proofs.lemmas.Option.{slice_get_past, same_Some, none-some}
 use Rattle.guest_model.specs.ByteMap.{write}
-use Rattle.guest_model.specs.AreaMap.{covers, areas_bytes, IsBelow, IsPageAligned, IsWithinSpace, IsLayout}
+use Rattle.guest_model.specs.AreaMap.{covers, areas_bytes, IsBelow}
 use Rattle.guest_model.specs.declared.areas.Area.{Area}
 use Rattle.guest_model.proofs.OnByteMap.{write-is}
 use Rattle.guest_model.proofs.OnAreas.{areas_bytes-at, covers-before, covers-after}
@@ -145,11 +144,3 @@ rising-take xs n rising le i j d l r =
     let at_j : get_or (take n xs) j d ≡ get_or xs j d = get_or-take n xs j d (omega arith) in
     let below : IsBelow (get_or xs i d) (get_or xs j d) = rising i j d l (omega arith) in
     omega (arith, ap (λ (y : Area). y.base + length y.bytes) at_i, ap (λ (y : Area). y.base) at_j, below)
-
--- one area alone
-pub one-layout : (x : Area) → x.base % 4096 ≡ 0 → length x.bytes % 4096 ≡ 0 → x.base + length x.bytes ≤ 2 ^ 32 → IsLayout (x ∷ [])
-one-layout x base size within = record {
-  aligned = All-cons IsPageAligned x [] (record { base = base; length = size }) (All-nil IsPageAligned);
-  rising = λ i j d l r. absurd (omega arith);
-  within = All-cons IsWithinSpace x [] within (All-nil IsWithinSpace);
-}

@@ -1,10 +1,10 @@
 -- What an image shows: its bytes, its write set and how many pages it owns
-use Rattle.std.specs.Prelude.{◌≡◌, ℕ, ◌/◌, ◌%◌, ◌^◌, ◌≤◌, List, length, slice_get, slice_index, Option, None, option_map, option_and_then}
+use Rattle.std.specs.Prelude.{◌≡◌, ℕ, Bool, ◌/◌, ◌%◌, ◌^◌, ◌≤◌, List, length, slice_get, slice_index, Option, None, option_map, option_and_then}
 use Rattle.std.proofs.Common.{ap, arith}
 use Rattle.std.proofs.lemmas.Option.{slice_get_past}
 use Rattle.guest_model.specs.ByteMap.{ByteMap}
 use Rattle.paged_image.specs.Owner.{page_bytes}
-use Rattle.paged_image.specs.Pages.{entry_at, bytes_at, paged, own_count, shared_touched}
+use Rattle.paged_image.specs.Pages.{entry_at, bytes_at, own_at, paged, own_count, shared_touched}
 use Rattle.paged_image.specs.declared.entry.Entry.{Entry}
 use Rattle.paged_image.specs.declared.image.PagedImage.{PagedImage}
 
@@ -15,6 +15,10 @@ content t = paged (bytes_at t.index.value.items t.entries.items)
 -- the pages written since the image was made or last gave a snapshot
 unfoldable pub written_of : PagedImage → List ℕ
 written_of t = t.written
+
+-- no other image has the page
+unfoldable pub owns_page : PagedImage → ℕ → Bool
+owns_page t page = own_at t.index.value.items t.entries.items page
 
 -- the number of pages that no other image has
 unfoldable pub owned_of : PagedImage → ℕ

@@ -34,9 +34,10 @@ pub struct PagedImage {
 }
 
 impl PagedImage {
-    ghost use Rattle.std.specs.Prelude.{[], IfOk};
+    ghost use Rattle.std.specs.Prelude.{ℕ, true, [], IfOk};
     ghost use Rattle.guest_model.specs.AreaMap.{areas_bytes, IsLayout};
-    ghost use Rattle.paged_image.specs.Image.{content, written_of, owned_of};
+    ghost use Rattle.paged_image.specs.Image.{content, written_of, owned_of, owns_page};
+    ghost use Rattle.paged_image.specs.WriteSet.{has};
 
     /// An image that holds these bytes: all pages are shared, and nothing is written yet.
     ///
@@ -67,7 +68,8 @@ impl PagedImage {
     /// that was refused for want of memory perhaps among them.
     #[tactic(auto, unfolding(crate::specs::Image::written_of))]
     pub fn written(&self) -> &WriteSet
-        ensures { result.now ≡ written_of self.now }
+        ensures pages { result.now ≡ written_of self.now }
+        ensures own { (page : ℕ) → owns_page self.now page ≡ true → has (written_of self.now) page ≡ true }
     {
         &self.written
     }
