@@ -95,8 +95,9 @@ module _ (c : Command) (f : Found) (id : Text) (no_groups : groups_of c ≡ []) 
           → (a && (b && s) || list_any (λ a. bytes_eq a.id id && (not (is_empty a.defaults) && a.is_simple)) (map rule_of xs)) ≡ true
           → (list_any (λ a. bytes_eq a.id id && (not (is_empty a.defaults) && a.is_simple)) (map rule_of xs) ≡ true → HasId f id) → HasId f id
       go true is true some true simple e rest =
+          let first : 0 < length (x ∷ xs) = omega arith in
           let ifs : x.default_vals_ifs.items ≡ [] = is_nil x.default_vals_ifs.items (both _ _ (both _ _ simple).1).0 in
-          subst (HasId f) ((bytes_eq-Decides x.id.now id).0 is) (h 0 x (omega arith) (ifs, more (items_of x.default_vals) some))
+          subst (HasId f) ((bytes_eq-Decides x.id.now id).0 is) (h 0 x first (ifs, more (items_of x.default_vals) some))
       go true is true some false simple e rest = rest e
       go true is false some s simple e rest = rest e
       go false is b some s simple e rest = rest e
