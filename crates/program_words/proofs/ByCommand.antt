@@ -19,10 +19,13 @@ use Rattle.clap.specs.declared.builder.ValueParser.{ValueParser}
 use Rattle.clap.specs.declared.builder.ValueParser.TheVariants as vp
 use Rattle.clap.specs.declared.builder.value_parser.Reading.TheVariants as reading
 use Rattle.clap.specs.declared.parser.matches.Found.{Found}
+use Rattle.clap.specs.Takes.{is_given}
+use Rattle.clap.proofs.CallerLemmas.{present_has_entry}
+use Rattle.clap.proofs.TakesLemmas.{present_row}
 use Rattle.clap.proofs.SimpleLemmas.{is_nil}
 use Rattle.clap.proofs.WalkLemmas.{first_value-rows}
-use Rattle.program_words.specs.CommandLine.{HasBudget, HasFlag, HeldTexts, InBudget, command_with, number_of, value_of}
-use Rattle.program_words.proofs.Values.{both, default_given, first_passes, takes_value}
+use Rattle.program_words.specs.CommandLine.{HasBudget, HasFlag, HasImage, HeldTexts, InBudget, command_with, number_of, value_of}
+use Rattle.program_words.proofs.Values.{both, default_given, entry_given, first_passes, takes_value}
 
 abbrev is_budget : ValueParser → Bool
 is_budget (vp.Unsigned low high) = nat_lt 0 low && nat_lt high 1099511627777
@@ -136,6 +139,12 @@ module _ (names : HeldTexts) (c : Command) (is : IsCommand names c) where
         (λ a g. budget_read (parser_of a) (both _ _ g).1) has.0 has.1 in
         (has.0, has.1, got.1, got.0)
 
+    pub image_there : is_given (codes "IMAGE") (rows_of f) ≡ true → HasImage f
+    image_there given =
+        let good = by_app (λ a. list_all (λ r. not (bytes_eq r.id (codes "IMAGE")) || takes_value r) a.top.rules ≡ true) names c is refl refl in
+        entry_given c f (codes "IMAGE") no_groups (λ e. cc) takes_value good parsed.values (λ a g. g)
+        (present_has_entry f (codes "IMAGE") (present_row f (codes "IMAGE") ∙ given))
+
     pub flag_there : HasFlag f
     flag_there t has =
         let good = by_app (λ a. list_all (λ r. not (bytes_eq r.id (codes "no-input")) || good_flag r) a.top.rules ≡ true) names c is refl refl in
@@ -182,11 +191,6 @@ flag_reads f b flag none value other = go (first_value f (codes "no-input")) ref
       | inr is ↦ other ((flag t e).0 ∙ ap Some is) ∙ at (codes "false") (value_is f (codes "no-input") t e ∙ is)
     ]
 
--- a text that is there, or none
-pub text_reads : (f : Found) (id : Text) (o : Option (Bor Text)) (other : Bor Text) → option_map (λ s. s.now) o ≡ first_value f id → other.now ≡ []
-    → (unwrap_or o other).now ≡ value_of id (rows_of f)
-text_reads f id o other is none = go o other none ∙ ap (λ t. unwrap_or t []) (is ∙ first_value-rows f id)
-  where
-    go : (o : Option (Bor Text)) (other : Bor Text) → other.now ≡ [] → (unwrap_or o other).now ≡ unwrap_or (option_map (λ s. s.now) o) []
-    go None other none = none
-    go (Some s) other none = refl
+-- a text that is there
+pub text_reads : (f : Found) (id : Text) (s : Bor Text) → option_map (λ s. s.now) (Some s) ≡ first_value f id → s.now ≡ value_of id (rows_of f)
+text_reads f id s is = ap (λ t. unwrap_or t []) (is ∙ first_value-rows f id)

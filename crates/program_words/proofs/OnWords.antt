@@ -5,13 +5,54 @@ use Rattle.clap.specs.Walk.{texts}
 use Rattle.clap.specs.declared.Error.{Error}
 use Rattle.clap.specs.declared.error.ErrorKind.{ErrorKind}
 use Rattle.clap.specs.declared.error.ErrorKind.TheVariants as kind
+use Rattle.std.specs.Prelude.{◌&&◌, ◌||◌, not, codes, is_some, Bool, false}
+use Rattle.std.proofs.Common.{true≢false}
+use Rattle.std.specs.List.{list_any}
+use Rattle.clap.specs.Facts.{explicit_source}
+use Rattle.clap.specs.Faults.{check_fault, defaults_fault, entered_fault, settle_fault, walk_fault}
+use Rattle.clap.specs.Kinds.{check_kinds, or_else}
+use Rattle.clap.specs.Simple.{built, entered}
+use Rattle.clap.specs.Takes.{is_given}
+use Rattle.clap.specs.Walk.{finished, nothing_held, settled, walk, walk_from}
 use Rattle.program_words.specs.CommandLine.{HeldTexts, Request, command, command_with, request_in, request_of, task_names, unless_faulty}
 use Rattle.program_words.proofs.SameFaults.{faults_same}
-use Rattle.program_words.proofs.SameReading.{matches_same}
+use Rattle.program_words.proofs.SameReading.{built_shape, matches_same, rules}
 
 none_among : (k : ErrorKind) (kinds : Kinds) (r : Request) → IsAmong k kinds → unless_faulty kinds r ≡ None
 none_among k [] r h = absurd h
 none_among k (x ∷ xs) r h = refl
+
+-- ---- where there is no fault, IMAGE is given
+
+after_all : (a b s d c : Kinds) → or_else a (or_else b (or_else s (or_else d c))) ≡ [] → c ≡ []
+after_all [] [] [] [] c e = e
+after_all (k ∷ ks) b s d c e = cc
+after_all [] (k ∷ ks) s d c e = cc
+after_all [] [] (k ∷ ks) d c e = cc
+after_all [] [] [] (k ∷ ks) c e = cc
+
+none_wanted : (help subcommand argument : Bool) → check_kinds help subcommand argument ≡ [] → argument ≡ false
+none_wanted true s a e = cc
+none_wanted false true a e = cc
+none_wanted false false true e = cc
+none_wanted false false false e = refl
+
+second_given : (a b rest : Bool) → (not a || (not b || rest)) ≡ false → b ≡ true
+second_given true true rest e = refl
+second_given true false rest e = absurd (true≢false e)
+second_given false b rest e = absurd (true≢false e)
+
+image_given : (words : List Text) → fault_of command words ≡ [] → is_given (codes "IMAGE") (matches_of command words) ≡ true
+image_given words e =
+    let s = built_shape task_names in
+    let w = walk (rules task_names) [] nothing_held words in
+    let rows = finished (rules task_names) w.held in
+    let has = is_some (entered (built command) w.stopped) in
+    let last = after_all (walk_fault s [] (walk_from nothing_held) words) (entered_fault (built command) w.stopped)
+    (settle_fault (rules task_names) false w.held) (defaults_fault (settled (rules task_names) w.held).rows (rules task_names)) (check_fault s rows has) e in
+    let none = none_wanted (not has && (false && not (list_any (λ r. explicit_source r.source) rows))) (not has && false)
+    (list_any (λ a. a.required && not (is_given a.id rows)) (rules task_names)) last in
+    second_given (is_given (codes "COMMAND") rows) (is_given (codes "IMAGE") rows) false none
 
 module _ (names : HeldTexts) (same : texts names.now ≡ texts task_names.now) (a : App) (is : a ≡ command_with names) (words : List Text) where
   pub faults_are : fault_of a words ≡ fault_of command words
@@ -25,6 +66,10 @@ module _ (names : HeldTexts) (same : texts names.now ≡ texts task_names.now) (
   refuses e (inl memory) not_memory = absurd (not_memory memory)
   refuses e (inr among) not_memory =
       none_among (kind_of e) (fault_of command words) _ (subst (IsAmong (kind_of e)) faults_are among)
+
+  pub gives_image : (rows : List Row) → fault_of a words ≡ [] → rows ≡ matches_of a words → is_given (codes "IMAGE") rows ≡ true
+  gives_image rows none are =
+      ap (is_given (codes "IMAGE")) (are ∙ matches_are) ∙ image_given words (sym faults_are ∙ none)
 
   -- no fault and the rows of the words: the words make the request that the rows give
   pub grants : (rows : List Row) → fault_of a words ≡ [] → rows ≡ matches_of a words → request_of words ≡ Some (request_in rows)

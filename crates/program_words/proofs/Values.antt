@@ -95,8 +95,9 @@ module _ (c : Command) (f : Found) (id : Text) (no_groups : groups_of c ≡ []) 
           → (a && (b && s) || list_any (λ a. bytes_eq a.id id && (not (is_empty a.defaults) && a.is_simple)) (map rule_of xs)) ≡ true
           → (list_any (λ a. bytes_eq a.id id && (not (is_empty a.defaults) && a.is_simple)) (map rule_of xs) ≡ true → HasId f id) → HasId f id
       go true is true some true simple e rest =
+          let first : 0 < length (x ∷ xs) = omega arith in
           let ifs : x.default_vals_ifs.items ≡ [] = is_nil x.default_vals_ifs.items (both _ _ (both _ _ simple).1).0 in
-          subst (HasId f) ((bytes_eq-Decides x.id.now id).0 is) (h 0 x (omega arith) (ifs, more (items_of x.default_vals) some))
+          subst (HasId f) ((bytes_eq-Decides x.id.now id).0 is) (h 0 x first (ifs, more (items_of x.default_vals) some))
       go true is true some false simple e rest = rest e
       go true is false some s simple e rest = rest e
       go false is b some s simple e rest = rest e
@@ -154,18 +155,11 @@ module _ (c : Command) (f : Found) (id : Text) (no_groups : groups_of c ≡ []) 
             cc
         go (Some x) e h = step x e (rw e at h) (entry_by_id (EntryPasses c) f.entries.items id x values e)
 
-    -- an argument that takes a value and has a default has a value
-    pub default_given : ValuesPass c f → HasDefaults c f → ((a : Rule) → good a ≡ true → takes_value a ≡ true)
-        → list_any (λ a. bytes_eq a.id id && (not (is_empty a.defaults) && a.is_simple)) (map rule_of (args_of c)) ≡ true
+    -- an argument that takes a value and has an entry has a value
+    pub entry_given : ValuesPass c f → ((a : Rule) → good a ≡ true → takes_value a ≡ true) → is_some (matched_of f id) ≡ true
         → (t : Text) × (first_value f id ≡ Some t)
-    default_given values defaults takes has =
-        let there = default_there (args_of c) has defaults in
-        go (matched_of f id) refl (some_mapped (find (λ e. bytes_eq e.0.now id) f.entries.items) (entry_found f.entries.items there.0 there.1 there.2))
+    entry_given values takes has = go (matched_of f id) refl has
       where
-        some_mapped : (o : Option Entry) → is_some o ≡ true → is_some (option_map (λ e. e.1) o) ≡ true
-        some_mapped None e = e
-        some_mapped (Some x) e = refl
-
         text_of : (x : MatchedArg) → matched_of f id ≡ Some x → (vs : List (Bor Text)) → x.vals.items ≡ vs → 0 < length vs
             → (t : Text) × (first_value f id ≡ Some t)
         text_of x found [] is lt = absurd (omega arith)
@@ -199,3 +193,15 @@ module _ (c : Command) (f : Found) (id : Text) (no_groups : groups_of c ≡ []) 
         go : (o : Option MatchedArg) → matched_of f id ≡ o → is_some o ≡ true → (t : Text) × (first_value f id ≡ Some t)
         go None e h = absurd (true≢false (sym h))
         go (Some x) e h = text_of x e x.vals.items refl (filled x (entry_by_id (EntryPasses c) f.entries.items id x values e))
+
+    -- and so has one with a default
+    pub default_given : ValuesPass c f → HasDefaults c f → ((a : Rule) → good a ≡ true → takes_value a ≡ true)
+        → list_any (λ a. bytes_eq a.id id && (not (is_empty a.defaults) && a.is_simple)) (map rule_of (args_of c)) ≡ true
+        → (t : Text) × (first_value f id ≡ Some t)
+    default_given values defaults takes has =
+        let there = default_there (args_of c) has defaults in
+        entry_given values takes (some_mapped (find (λ e. bytes_eq e.0.now id) f.entries.items) (entry_found f.entries.items there.0 there.1 there.2))
+      where
+        some_mapped : (o : Option Entry) → is_some o ≡ true → is_some (option_map (λ e. e.1) o) ≡ true
+        some_mapped None e = e
+        some_mapped (Some x) e = refl

@@ -99,6 +99,10 @@ request_of words = unless_faulty (fault_of command words) (request_in (matches_o
 abbrev pub InBudget : Text → Type 0
 InBudget text = IsNumeral 10 (without_leading_plus text) × (1 ≤ number_of text) × (number_of text ≤ 1099511627776)
 
+-- IMAGE has a value
+abbrev pub HasImage : Found → Type 0
+HasImage f = (text : Text) × (first_value f (codes "IMAGE") ≡ Some text)
+
 -- `--budget` has a value, given or by default, and it is in its range
 abbrev pub HasBudget : Found → Type 0
 HasBudget f = (text : Text) × (first_value f (codes "budget") ≡ Some text)

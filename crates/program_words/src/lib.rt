@@ -5,3 +5,6 @@ mod command;
 mod request;
 
 pub use request::{Request, Task, WordsFault, read_words};
+
+#[cfg(test)]
+mod tests;

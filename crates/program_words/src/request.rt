@@ -2,7 +2,7 @@
 
 ghost use Rattle.std.specs.Prelude.{◌≡◌, ◌≤◌, ◌^◌, Some, None, Err, IfOk, bytes_eq, codes, map, string_bytes};
 ghost use Rattle.clap.specs.Words.{found_of, rows_of};
-ghost use Rattle.program_words.specs.CommandLine.{HasBudget, HasFlag, number_of, request_in, request_of, value_of};
+ghost use Rattle.program_words.specs.CommandLine.{HasBudget, HasFlag, HasImage, number_of, request_in, request_of, value_of};
 
 use crate::command::command;
 use clap::ArgMatches;
@@ -73,7 +73,7 @@ pub fn read_words<'a>(alloc: Global, words: &'a [String]) -> Result<Request<'a>,
 fn parse_words<'a>(alloc: Global, words: &'a [String]) -> Result<ArgMatches<'a>, WordsFault>
     ensures usage { result ≡ Err WordsFault.Usage → request_of (map string_bytes words.now) ≡ None }
     ensures rows { IfOk result (λ m. request_of (map string_bytes words.now) ≡ Some (request_in (rows_of (found_of m)))) }
-    ensures values { IfOk result (λ m. HasBudget (found_of m) × HasFlag (found_of m)) }
+    ensures values { IfOk result (λ m. HasImage (found_of m) × HasBudget (found_of m) × HasFlag (found_of m)) }
 {
     let mut command = command(alloc)?;
     match command.try_get_matches_from_mut(words) {
@@ -83,11 +83,14 @@ fn parse_words<'a>(alloc: Global, words: &'a [String]) -> Result<ArgMatches<'a>,
     }
 }
 
-// The path of the image file. It is required, so it is never left out.
 fn image_in<'a>(matches: &ArgMatches<'a>) -> &'a str
+    requires { HasImage (found_of matches.now) }
     ensures { result.now ≡ value_of (codes "IMAGE") (rows_of (found_of matches.now)) }
 {
-    matches.get_str("IMAGE").unwrap_or("")
+    match matches.get_str("IMAGE") {
+        Some(image) => image,
+        None => unreachable!(),
+    }
 }
 
 fn budget_in(matches: &ArgMatches<'_>) -> u64

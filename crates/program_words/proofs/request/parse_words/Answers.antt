@@ -1,6 +1,6 @@
 use Rattle.std.proofs.Common.{◌≡◌, ◌∙◌, sym, true, true≢false, inl, inr}
-use Rattle.program_words.proofs.ByCommand.{budget_there, flag_there, is_command, no_globals}
-use Rattle.program_words.proofs.OnWords.{grants, refuses, simple_app, simple_command}
+use Rattle.program_words.proofs.ByCommand.{budget_there, flag_there, image_there, is_command, no_globals}
+use Rattle.program_words.proofs.OnWords.{gives_image, grants, refuses, simple_app, simple_command}
 use Rattle.program_words.proofs.request.parse_words.Goals as goal
 
 pub returns-in-Ok-clause-rows : goal.returns-in-Ok-clause-rows
@@ -16,7 +16,8 @@ returns-in-Ok-clause-values c =
       | inr kept ↦
           let is = is_command made.0 _ _ made.2 kept.2 in
           let parsed = c.in-Ok.ensures.ok.1 (no_globals made.0 _ is) in
-          (budget_there made.0 _ is _ _ parsed, flag_there made.0 _ is _ _ parsed)
+          let image = gives_image made.0 made.1 _ made.2 _ _ (c.in-Ok.ensures.kinds (simple_app made.0 _ made.2)) (c.in-Ok.ensures.ok.2 (simple_command made.0 _ made.2)).0 in
+          (image_there made.0 _ is _ _ parsed image, budget_there made.0 _ is _ _ parsed, flag_there made.0 _ is _ _ parsed)
     ]
 
 pub returns-clause-usage : goal.returns-clause-usage
