@@ -8,22 +8,55 @@ use std::test::Fail;
 
 #[test]
 fn words_and_budget(rt: HostRuntime) -> Result<(), Fail> {
-    let refused: [&[&str]; 5] = [&[], &["alone"], &["fly", "g"], &["alone", "g", "--budget", "0"], &["--help"]];
+    let refused: [&[&str]; 5] = [
+        &[],
+        &["alone"],
+        &["fly", "g"],
+        &["alone", "g", "--budget", "0"],
+        &["--help"],
+    ];
     let image = image_of(rt.alloc(), &[0x0000_006F])?;
     for words in refused {
-        let got = call(rt.alloc(), &Given { words, ..plain(image.as_slice(), b"") })?;
+        let got = call(
+            rt.alloc(),
+            &Given {
+                words,
+                ..plain(image.as_slice(), b"")
+            },
+        )?;
         assert!(rt; got.answer == Answer::Usage && status(&got.answer) == 242);
-        assert!(rt; got.out.is_empty() && got.notes.as_slice() == b"fasttrack: bad words\n".as_slice());
+        assert!(rt;
+            got.out.is_empty() && got.notes.as_slice() == b"fasttrack: bad words\n".as_slice()
+        );
     }
-    let spent = call(rt.alloc(), &Given { words: &["alone", "g", "--budget", "5"], ..plain(image.as_slice(), b"") })?;
+    let spent = call(
+        rt.alloc(),
+        &Given {
+            words: &["alone", "g", "--budget", "5"],
+            ..plain(image.as_slice(), b"")
+        },
+    )?;
     assert!(rt; spent.answer == Answer::Spent && status(&spent.answer) == 241);
     assert!(rt; spent.notes.as_slice() == b"fasttrack: budget spent\n".as_slice());
     let two = image_of(rt.alloc(), &TWO_STREAMS)?;
-    let cut = call(rt.alloc(), &Given { words: &["alone", "g", "--budget", "7"], ..plain(two.as_slice(), b"") })?;
+    let cut = call(
+        rt.alloc(),
+        &Given {
+            words: &["alone", "g", "--budget", "7"],
+            ..plain(two.as_slice(), b"")
+        },
+    )?;
     assert!(rt; cut.answer == Answer::Spent && cut.out.as_slice() == b"\x13".as_slice());
     assert!(rt; cut.notes.as_slice() == b"fasttrack: budget spent\n".as_slice());
     let unread = image_of(rt.alloc(), &ECHO)?;
-    let quiet = call(rt.alloc(), &Given { words: &["alone", "g", "--no-input"], failing_input: &[0], ..plain(unread.as_slice(), b"abc") })?;
+    let quiet = call(
+        rt.alloc(),
+        &Given {
+            words: &["alone", "g", "--no-input"],
+            failing_input: &[0],
+            ..plain(unread.as_slice(), b"abc")
+        },
+    )?;
     assert!(rt; quiet.answer == Answer::Exited(0) && quiet.out.is_empty());
     Ok(())
 }
@@ -32,14 +65,43 @@ fn words_and_budget(rt: HostRuntime) -> Result<(), Fail> {
 fn each_failure_in_turn(rt: HostRuntime) -> Result<(), Fail> {
     let image = image_of(rt.alloc(), &ECHO)?;
     for k in 0..6u64 {
-        let files = call(rt.alloc(), &Given { failing_files: &[k], ..plain(image.as_slice(), b"abcdef") })?;
-        let input = call(rt.alloc(), &Given { failing_input: &[k], ..plain(image.as_slice(), b"abcdef") })?;
-        let out = call(rt.alloc(), &Given { failing_out: &[k], ..plain(image.as_slice(), b"abcdef") })?;
+        let files = call(
+            rt.alloc(),
+            &Given {
+                failing_files: &[k],
+                ..plain(image.as_slice(), b"abcdef")
+            },
+        )?;
+        let input = call(
+            rt.alloc(),
+            &Given {
+                failing_input: &[k],
+                ..plain(image.as_slice(), b"abcdef")
+            },
+        )?;
+        let out = call(
+            rt.alloc(),
+            &Given {
+                failing_out: &[k],
+                ..plain(image.as_slice(), b"abcdef")
+            },
+        )?;
         let read_fails = k < 2;
-        assert!(rt; (files.answer == Answer::ReadFault) == read_fails && (input.answer == Answer::ReadFault) == read_fails);
+        assert!(rt;
+            (files.answer == Answer::ReadFault) == read_fails
+                && (input.answer == Answer::ReadFault) == read_fails
+        );
         assert!(rt; files.out.is_empty() == read_fails && input.out.is_empty() == read_fails);
         assert!(rt; (out.answer == Answer::WriteFault) == (k < 3));
-        assert!(rt; out.out.as_slice() == match k { 0 => b"".as_slice(), 1 => b"ab".as_slice(), 2 => b"abcd".as_slice(), _ => b"abcdef".as_slice() });
+        assert!(rt;
+            out.out.as_slice()
+                == match k {
+                    0 => b"".as_slice(),
+                    1 => b"ab".as_slice(),
+                    2 => b"abcd".as_slice(),
+                    _ => b"abcdef".as_slice()
+                }
+        );
     }
     Ok(())
 }
@@ -47,12 +109,30 @@ fn each_failure_in_turn(rt: HostRuntime) -> Result<(), Fail> {
 #[test]
 fn notes_that_fail(rt: HostRuntime) -> Result<(), Fail> {
     let two = image_of(rt.alloc(), &TWO_STREAMS)?;
-    let stream = call(rt.alloc(), &Given { failing_notes: &[0], ..plain(two.as_slice(), b"") })?;
+    let stream = call(
+        rt.alloc(),
+        &Given {
+            failing_notes: &[0],
+            ..plain(two.as_slice(), b"")
+        },
+    )?;
     assert!(rt; stream.answer == Answer::WriteFault && stream.out.as_slice() == b"\x13".as_slice());
     let trap = image_of(rt.alloc(), &[0])?;
-    let line = call(rt.alloc(), &Given { failing_notes: &[0], ..plain(trap.as_slice(), b"") })?;
+    let line = call(
+        rt.alloc(),
+        &Given {
+            failing_notes: &[0],
+            ..plain(trap.as_slice(), b"")
+        },
+    )?;
     assert!(rt; line.answer == Answer::WriteFault && status(&line.answer) == 247);
-    let refused = call(rt.alloc(), &Given { failing_notes: &[0], ..plain(b"", b"") })?;
+    let refused = call(
+        rt.alloc(),
+        &Given {
+            failing_notes: &[0],
+            ..plain(b"", b"")
+        },
+    )?;
     assert!(rt; refused.answer == Answer::BadImage(ImageFault::Short) && refused.notes.is_empty());
     Ok(())
 }

@@ -62,16 +62,40 @@ fn changed_bytes(rt: HostRuntime) -> Result<(), Fail> {
         (52, &[2], Answer::BadImage(ImageFault::Dynamic(0))),
         (52, &[3], Answer::BadImage(ImageFault::Dynamic(0))),
         (72, &[11], Answer::BadImage(ImageFault::Segment(0))),
-        (60, &[0xF8, 0xFF, 0xFF, 0xFF], Answer::BadImage(ImageFault::Segment(0))),
-        (60, &[0xF8, 0xFF, 0xFF, 0x7F], Answer::BadImage(ImageFault::StackOverlap(0))),
-        (60, &[0xFC, 0xFF, 0xEF, 0x7F], Answer::BadImage(ImageFault::StackOverlap(0))),
+        (
+            60,
+            &[0xF8, 0xFF, 0xFF, 0xFF],
+            Answer::BadImage(ImageFault::Segment(0)),
+        ),
+        (
+            60,
+            &[0xF8, 0xFF, 0xFF, 0x7F],
+            Answer::BadImage(ImageFault::StackOverlap(0)),
+        ),
+        (
+            60,
+            &[0xFC, 0xFF, 0xEF, 0x7F],
+            Answer::BadImage(ImageFault::StackOverlap(0)),
+        ),
         (72, &[0, 0, 0xF0, 1], Answer::Exited(0)),
         (72, &[1, 0, 0xF0, 1], Answer::BadImage(ImageFault::TooLarge)),
         (24, &[2, 0, 1, 0], Answer::BadImage(ImageFault::Entry)),
         (24, &[0, 0x10, 0, 0], Answer::BadImage(ImageFault::Entry)),
-        (24, &[0xFC, 0x0F, 1, 0], Answer::Trapped(Trap::Illegal, 0x10FFC)),
-        (0, &[0x7F, 0x45, 0x4C, 0x47], Answer::BadImage(ImageFault::Magic)),
-        (4, &[2, 1, 1, 0, 0, 0, 0, 0, 0, 0, 0, 0, 2, 0, 0], Answer::BadImage(ImageFault::Class)),
+        (
+            24,
+            &[0xFC, 0x0F, 1, 0],
+            Answer::Trapped(Trap::Illegal, 0x10FFC),
+        ),
+        (
+            0,
+            &[0x7F, 0x45, 0x4C, 0x47],
+            Answer::BadImage(ImageFault::Magic),
+        ),
+        (
+            4,
+            &[2, 1, 1, 0, 0, 0, 0, 0, 0, 0, 0, 0, 2, 0, 0],
+            Answer::BadImage(ImageFault::Class),
+        ),
     ];
     for (at, to, answer) in rows {
         let image = changed(rt.alloc(), at, to)?;

@@ -20,31 +20,99 @@ struct Row<'a> {
 
 /// A region whose original sums ten numbers to 55, with its fast version, and the exit with that sum.
 const SUM: [u32; 15] = [
-    0x7D00_0893, 0x0000_0073, 0x0005_1E63, 0x0000_0513, 0x00A0_0293, 0x0055_0533, 0xFFF2_8293, 0xFE02_9CE3,
-    0x00C0_006F, 0x0370_0513, 0x0000_0293, 0x7D10_0893, 0x0000_0073, 0x05D0_0893, 0x0000_0073,
+    0x7D00_0893,
+    0x0000_0073,
+    0x0005_1E63,
+    0x0000_0513,
+    0x00A0_0293,
+    0x0055_0533,
+    0xFFF2_8293,
+    0xFE02_9CE3,
+    0x00C0_006F,
+    0x0370_0513,
+    0x0000_0293,
+    0x7D10_0893,
+    0x0000_0073,
+    0x05D0_0893,
+    0x0000_0073,
 ];
 
 /// The same region, and then two writes of the byte that the sum is.
 const SUM_TWICE: [u32; 24] = [
-    0x7D00_0893, 0x0000_0073, 0x0005_1E63, 0x0000_0513, 0x00A0_0293, 0x0055_0533, 0xFFF2_8293, 0xFE02_9CE3,
-    0x00C0_006F, 0x0370_0513, 0x0000_0293, 0x7D10_0893, 0x0000_0073, 0xFEA1_0FA3, 0x0010_0513, 0xFFF1_0593,
-    0x0010_0613, 0x0400_0893, 0x0000_0073, 0x0010_0513, 0x0000_0073, 0x0000_0513, 0x05D0_0893, 0x0000_0073,
+    0x7D00_0893,
+    0x0000_0073,
+    0x0005_1E63,
+    0x0000_0513,
+    0x00A0_0293,
+    0x0055_0533,
+    0xFFF2_8293,
+    0xFE02_9CE3,
+    0x00C0_006F,
+    0x0370_0513,
+    0x0000_0293,
+    0x7D10_0893,
+    0x0000_0073,
+    0xFEA1_0FA3,
+    0x0010_0513,
+    0xFFF1_0593,
+    0x0010_0613,
+    0x0400_0893,
+    0x0000_0073,
+    0x0010_0513,
+    0x0000_0073,
+    0x0000_0513,
+    0x05D0_0893,
+    0x0000_0073,
 ];
 
 /// Copies the input to the output, two bytes at a time.
 pub const ECHO: [u32; 13] = [
-    0x0000_0513, 0xFF01_0593, 0x0020_0613, 0x03F0_0893, 0x0000_0073, 0x0005_0C63, 0x0005_0613, 0x0010_0513,
-    0x0400_0893, 0x0000_0073, 0xFD9F_F06F, 0x05D0_0893, 0x0000_0073,
+    0x0000_0513,
+    0xFF01_0593,
+    0x0020_0613,
+    0x03F0_0893,
+    0x0000_0073,
+    0x0005_0C63,
+    0x0005_0613,
+    0x0010_0513,
+    0x0400_0893,
+    0x0000_0073,
+    0xFD9F_F06F,
+    0x05D0_0893,
+    0x0000_0073,
 ];
 
 /// Writes the byte 13 (hexadecimal) to stream 1 and the byte 05 to stream 2.
 pub const TWO_STREAMS: [u32; 11] = [
-    0x0010_0513, 0x0001_05B7, 0x0010_0613, 0x0400_0893, 0x0000_0073, 0x0020_0513, 0x0015_8593, 0x0000_0073,
-    0x0000_0513, 0x05D0_0893, 0x0000_0073,
+    0x0010_0513,
+    0x0001_05B7,
+    0x0010_0613,
+    0x0400_0893,
+    0x0000_0073,
+    0x0020_0513,
+    0x0015_8593,
+    0x0000_0073,
+    0x0000_0513,
+    0x05D0_0893,
+    0x0000_0073,
 ];
 
-fn expected<'a>(words: &'a [u32], input: &'a [u8], answer: Answer, status: u8, out: &'a [u8], notes: &'a str) -> Row<'a> {
-    Row { words, input, answer, status, out, notes }
+fn expected<'a>(
+    words: &'a [u32],
+    input: &'a [u8],
+    answer: Answer,
+    status: u8,
+    out: &'a [u8],
+    notes: &'a str,
+) -> Row<'a> {
+    Row {
+        words,
+        input,
+        answer,
+        status,
+        out,
+        notes,
+    }
 }
 
 fn check(rt: &impl Abort, alloc: Global, rows: &[Row<'_>]) -> Result<(), Fail> {
@@ -62,11 +130,35 @@ fn check(rt: &impl Abort, alloc: Global, rows: &[Row<'_>]) -> Result<(), Fail> {
 #[test]
 fn ends_of_their_own(rt: HostRuntime) -> Result<(), Fail> {
     let exit = [0x0000_0513, 0x05D0_0893, 0x0000_0073];
-    let one_byte = [0x0010_0513, 0x0001_05B7, 0x0010_0613, 0x0400_0893, 0x0000_0073, 0x05D0_0893, 0x0000_0073];
-    let moved_break = [0x0000_0513, 0x0D60_0893, 0x0000_0073, 0x0105_0513, 0x0000_0073, 0x05D0_0893, 0x0000_0073];
+    let one_byte = [
+        0x0010_0513,
+        0x0001_05B7,
+        0x0010_0613,
+        0x0400_0893,
+        0x0000_0073,
+        0x05D0_0893,
+        0x0000_0073,
+    ];
+    let moved_break = [
+        0x0000_0513,
+        0x0D60_0893,
+        0x0000_0073,
+        0x0105_0513,
+        0x0000_0073,
+        0x05D0_0893,
+        0x0000_0073,
+    ];
     let last_break = [
-        0x0000_0513, 0x0D60_0893, 0x0000_0073, 0x0040_02B7, 0x0055_0533, 0x0000_0073, 0x0015_0513, 0x0000_0073,
-        0x05D0_0893, 0x0000_0073,
+        0x0000_0513,
+        0x0D60_0893,
+        0x0000_0073,
+        0x0040_02B7,
+        0x0055_0533,
+        0x0000_0073,
+        0x0015_0513,
+        0x0000_0073,
+        0x05D0_0893,
+        0x0000_0073,
     ];
     check(
         &rt,
@@ -91,13 +183,62 @@ fn traps(rt: HostRuntime) -> Result<(), Fail> {
         &rt,
         rt.alloc(),
         &[
-            expected(&[0x02C5_C533], b"", Answer::Trapped(Trap::Illegal, 0x10004), 240, b"", "fasttrack: trap illegal at 00010004\n"),
-            expected(&[0x0000_1163], b"", Answer::Trapped(Trap::Illegal, 0x10004), 240, b"", "fasttrack: trap illegal at 00010004\n"),
-            expected(&[0x0020_006F], b"", Answer::Trapped(Trap::Misaligned, 0x10000), 240, b"", "fasttrack: trap misaligned at 00010000\n"),
-            expected(&[0x0000_2503], b"", Answer::Trapped(Trap::LoadUnmapped, 0x10000), 240, b"", "fasttrack: trap load at 00010000\n"),
-            expected(&[0x0000_2023], b"", Answer::Trapped(Trap::StoreUnmapped, 0x10000), 240, b"", "fasttrack: trap store at 00010000\n"),
-            expected(&[0x0010_0073], b"", Answer::Trapped(Trap::Breakpoint, 0x10000), 240, b"", "fasttrack: trap breakpoint at 00010000\n"),
-            expected(&[0x0000_0067], b"", Answer::Trapped(Trap::FetchUnmapped, 0), 240, b"", "fasttrack: trap fetch at 00000000\n"),
+            expected(
+                &[0x02C5_C533],
+                b"",
+                Answer::Trapped(Trap::Illegal, 0x10004),
+                240,
+                b"",
+                "fasttrack: trap illegal at 00010004\n",
+            ),
+            expected(
+                &[0x0000_1163],
+                b"",
+                Answer::Trapped(Trap::Illegal, 0x10004),
+                240,
+                b"",
+                "fasttrack: trap illegal at 00010004\n",
+            ),
+            expected(
+                &[0x0020_006F],
+                b"",
+                Answer::Trapped(Trap::Misaligned, 0x10000),
+                240,
+                b"",
+                "fasttrack: trap misaligned at 00010000\n",
+            ),
+            expected(
+                &[0x0000_2503],
+                b"",
+                Answer::Trapped(Trap::LoadUnmapped, 0x10000),
+                240,
+                b"",
+                "fasttrack: trap load at 00010000\n",
+            ),
+            expected(
+                &[0x0000_2023],
+                b"",
+                Answer::Trapped(Trap::StoreUnmapped, 0x10000),
+                240,
+                b"",
+                "fasttrack: trap store at 00010000\n",
+            ),
+            expected(
+                &[0x0010_0073],
+                b"",
+                Answer::Trapped(Trap::Breakpoint, 0x10000),
+                240,
+                b"",
+                "fasttrack: trap breakpoint at 00010000\n",
+            ),
+            expected(
+                &[0x0000_0067],
+                b"",
+                Answer::Trapped(Trap::FetchUnmapped, 0),
+                240,
+                b"",
+                "fasttrack: trap fetch at 00000000\n",
+            ),
         ],
     )
 }
@@ -112,7 +253,14 @@ fn five_headers(alloc: Global) -> Result<Vec<u8>, Fail> {
         [0x6474_E551, 0, 0, 0, 0],
     ];
     let words = [
-        0x0010_0513, 0x0001_15B7, 0x0F85_8593, 0x0060_0613, 0x0400_0893, 0x0000_0073, 0x0001_2503, 0x05D0_0893,
+        0x0010_0513,
+        0x0001_15B7,
+        0x0F85_8593,
+        0x0060_0613,
+        0x0400_0893,
+        0x0000_0073,
+        0x0001_2503,
+        0x05D0_0893,
         0x0000_0073u32,
     ];
     let mut image = Vec::new(alloc);
@@ -138,7 +286,13 @@ fn other_headers_are_passed_over(rt: HostRuntime) -> Result<(), Fail> {
     assert_eq!(rt; image.len(), 254);
     let got = call(rt.alloc(), &plain(image.as_slice(), b""))?;
     assert!(rt; got.answer == Answer::Exited(0) && got.out.as_slice() == b"hello\n".as_slice());
-    let counted = call(rt.alloc(), &Given { words: &["alone", "g", "--budget", "8"], ..plain(image.as_slice(), b"") })?;
+    let counted = call(
+        rt.alloc(),
+        &Given {
+            words: &["alone", "g", "--budget", "8"],
+            ..plain(image.as_slice(), b"")
+        },
+    )?;
     assert!(rt; counted.answer == Answer::Spent);
     Ok(())
 }
@@ -146,19 +300,43 @@ fn other_headers_are_passed_over(rt: HostRuntime) -> Result<(), Fail> {
 #[test]
 fn generated_programs(rt: HostRuntime) -> Result<(), Fail> {
     let image = generate(rt.alloc(), 1, 6)?;
-    let whole = call(rt.alloc(), &Given { words: &["alone", "g", "--budget", "180435"], ..plain(image.as_slice(), b"") })?;
+    let whole = call(
+        rt.alloc(),
+        &Given {
+            words: &["alone", "g", "--budget", "180435"],
+            ..plain(image.as_slice(), b"")
+        },
+    )?;
     assert!(rt; whole.answer == Answer::Exited(0));
     let mut sums = Vec::new(rt.alloc());
     for sum in [30003u32, 60027, 90072, 120138, 150225, 180333] {
         sums.extend_from_slice(&sum.to_le_bytes())?;
     }
     assert!(rt; whole.out.as_slice() == sums.as_slice());
-    let cut = call(rt.alloc(), &Given { words: &["alone", "g", "--budget", "180434"], ..plain(image.as_slice(), b"") })?;
+    let cut = call(
+        rt.alloc(),
+        &Given {
+            words: &["alone", "g", "--budget", "180434"],
+            ..plain(image.as_slice(), b"")
+        },
+    )?;
     assert!(rt; cut.answer == Answer::Spent);
     let bench = generate(rt.alloc(), 0, 64)?;
-    let all = call(rt.alloc(), &Given { words: &["alone", "g", "--budget", "1927078"], ..plain(bench.as_slice(), b"") })?;
+    let all = call(
+        rt.alloc(),
+        &Given {
+            words: &["alone", "g", "--budget", "1927078"],
+            ..plain(bench.as_slice(), b"")
+        },
+    )?;
     assert!(rt; all.answer == Answer::Exited(0) && all.out.len() == 256);
-    let less = call(rt.alloc(), &Given { words: &["alone", "g", "--budget", "1927077"], ..plain(bench.as_slice(), b"") })?;
+    let less = call(
+        rt.alloc(),
+        &Given {
+            words: &["alone", "g", "--budget", "1927077"],
+            ..plain(bench.as_slice(), b"")
+        },
+    )?;
     assert!(rt; less.answer == Answer::Spent);
     Ok(())
 }
