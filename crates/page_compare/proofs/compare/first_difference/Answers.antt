@@ -16,8 +16,8 @@ pub page_difference-requires-clause-room : goal.page_difference-requires-clause-
 page_difference-requires-clause-room g c =
     let us = c.as_slice-us.result.now in
     let ws = c.as_slice-ws.result.now in
-    let is_us : us ≡ written_of c.args.a.now = c.as_slice-us.ensures.pages ∙ c.written.ensures in
-    let is_ws : ws ≡ written_of c.args.b.now = c.as_slice-ws.ensures.pages ∙ c.written-2.ensures in
+    let is_us : us ≡ written_of c.args.a.now = c.as_slice-us.ensures.pages ∙ c.written.ensures.pages in
+    let is_ws : ws ≡ written_of c.args.b.now = c.as_slice-ws.ensures.pages ∙ c.written-2.ensures.pages in
     let whole : in_either us ws ≡ in_either (written_of c.args.a.now) (written_of c.args.b.now) = ap (λ (xs : List ℕ). in_either xs ws) is_us ∙ ap (in_either (written_of c.args.a.now)) is_ws in
     let up = rising_of us c.written.result.now c.as_slice-us.ensures.pages c.as_slice-us.ensures.rising in
     let wp = rising_of ws c.written-2.result.now c.as_slice-ws.ensures.pages c.as_slice-ws.ensures.rising in
@@ -27,8 +27,8 @@ pub returns-in-Some-page_difference-clause-lowest : goal.returns-in-Some-page_di
 returns-in-Some-page_difference-clause-lowest g c =
     let us = c.as_slice-us.result.now in
     let ws = c.as_slice-ws.result.now in
-    let is_us : us ≡ written_of c.args.a.now = c.as_slice-us.ensures.pages ∙ c.written.ensures in
-    let is_ws : ws ≡ written_of c.args.b.now = c.as_slice-ws.ensures.pages ∙ c.written-2.ensures in
+    let is_us : us ≡ written_of c.args.a.now = c.as_slice-us.ensures.pages ∙ c.written.ensures.pages in
+    let is_ws : ws ≡ written_of c.args.b.now = c.as_slice-ws.ensures.pages ∙ c.written-2.ensures.pages in
     let up = rising_of us c.written.result.now c.as_slice-us.ensures.pages c.as_slice-us.ensures.rising in
     let wp = rising_of ws c.written-2.result.now c.as_slice-ws.ensures.pages c.as_slice-ws.ensures.rising in
     let m = content c.args.a.now in
@@ -41,8 +41,8 @@ pub returns-in-Some-page_difference-clause-steps : goal.returns-in-Some-page_dif
 returns-in-Some-page_difference-clause-steps g c =
     let us = c.as_slice-us.result.now in
     let ws = c.as_slice-ws.result.now in
-    let is_us : us ≡ written_of c.args.a.now = c.as_slice-us.ensures.pages ∙ c.written.ensures in
-    let is_ws : ws ≡ written_of c.args.b.now = c.as_slice-ws.ensures.pages ∙ c.written-2.ensures in
+    let is_us : us ≡ written_of c.args.a.now = c.as_slice-us.ensures.pages ∙ c.written.ensures.pages in
+    let is_ws : ws ≡ written_of c.args.b.now = c.as_slice-ws.ensures.pages ∙ c.written-2.ensures.pages in
     let whole : in_either us ws ≡ in_either (written_of c.args.a.now) (written_of c.args.b.now) = ap (λ (xs : List ℕ). in_either xs ws) is_us ∙ ap (in_either (written_of c.args.a.now)) is_ws in
     let up = rising_of us c.written.result.now c.as_slice-us.ensures.pages c.as_slice-us.ensures.rising in
     let wp = rising_of ws c.written-2.result.now c.as_slice-ws.ensures.pages c.as_slice-ws.ensures.rising in
@@ -58,8 +58,8 @@ pub loop-page-preserved : goal.loop-page-preserved
 loop-page-preserved g c =
     let us = c.as_slice-us.result.now in
     let ws = c.as_slice-ws.result.now in
-    let is_us : us ≡ written_of c.args.a.now = c.as_slice-us.ensures.pages ∙ c.written.ensures in
-    let is_ws : ws ≡ written_of c.args.b.now = c.as_slice-ws.ensures.pages ∙ c.written-2.ensures in
+    let is_us : us ≡ written_of c.args.a.now = c.as_slice-us.ensures.pages ∙ c.written.ensures.pages in
+    let is_ws : ws ≡ written_of c.args.b.now = c.as_slice-ws.ensures.pages ∙ c.written-2.ensures.pages in
     let up = rising_of us c.written.result.now c.as_slice-us.ensures.pages c.as_slice-us.ensures.rising in
     let wp = rising_of ws c.written-2.result.now c.as_slice-ws.ensures.pages c.as_slice-ws.ensures.rising in
     let m = content c.args.a.now in
@@ -75,8 +75,8 @@ pub returns-clause-lowest : goal.returns-clause-lowest
 returns-clause-lowest g c =
     let us = c.as_slice-us.result.now in
     let ws = c.as_slice-ws.result.now in
-    let is_us : us ≡ written_of c.args.a.now = c.as_slice-us.ensures.pages ∙ c.written.ensures in
-    let is_ws : ws ≡ written_of c.args.b.now = c.as_slice-ws.ensures.pages ∙ c.written-2.ensures in
+    let is_us : us ≡ written_of c.args.a.now = c.as_slice-us.ensures.pages ∙ c.written.ensures.pages in
+    let is_ws : ws ≡ written_of c.args.b.now = c.as_slice-ws.ensures.pages ∙ c.written-2.ensures.pages in
     let up = rising_of us c.written.result.now c.as_slice-us.ensures.pages c.as_slice-us.ensures.rising in
     let wp = rising_of ws c.written-2.result.now c.as_slice-ws.ensures.pages c.as_slice-ws.ensures.rising in
     let m = content c.args.a.now in
@@ -90,8 +90,8 @@ pub returns-clause-none : goal.returns-clause-none
 returns-clause-none g c =
     let us = c.as_slice-us.result.now in
     let ws = c.as_slice-ws.result.now in
-    let is_us : us ≡ written_of c.args.a.now = c.as_slice-us.ensures.pages ∙ c.written.ensures in
-    let is_ws : ws ≡ written_of c.args.b.now = c.as_slice-ws.ensures.pages ∙ c.written-2.ensures in
+    let is_us : us ≡ written_of c.args.a.now = c.as_slice-us.ensures.pages ∙ c.written.ensures.pages in
+    let is_ws : ws ≡ written_of c.args.b.now = c.as_slice-ws.ensures.pages ∙ c.written-2.ensures.pages in
     let up = rising_of us c.written.result.now c.as_slice-us.ensures.pages c.as_slice-us.ensures.rising in
     let wp = rising_of ws c.written-2.result.now c.as_slice-ws.ensures.pages c.as_slice-ws.ensures.rising in
     let m = content c.args.a.now in
