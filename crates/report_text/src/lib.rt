@@ -1,8 +1,18 @@
-//! The texts of reports, byte by byte.
+//! The texts of reports, byte by byte: the rows of a ledger, its totals, the end of a run, and the summary of a bench.
 #![tactic(auto)]
 
 mod address;
+mod bench;
+mod end;
+mod row;
+mod totals;
 mod traps;
+mod verdict;
 
 pub use address::Address;
+pub use bench::bench_text;
+pub use end::end_text;
+pub use row::row_text;
+pub use totals::totals_text;
 pub use traps::trap_name;
+pub use verdict::VerdictText;
