@@ -13,3 +13,6 @@ pub use name_text::NameText;
 pub use read::read_entry;
 pub use speculation::{Entry, Name};
 pub use write::{EntryText, entry_text};
+
+#[cfg(test)]
+mod tests;

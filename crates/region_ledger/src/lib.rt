@@ -17,3 +17,6 @@ pub use row::{Row, Rows};
 pub use summary::Totals;
 pub use tally::totals;
 pub use verdict::Verdict;
+
+#[cfg(test)]
+mod tests;

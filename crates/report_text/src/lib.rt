@@ -16,3 +16,6 @@ pub use row::row_text;
 pub use totals::totals_text;
 pub use traps::trap_name;
 pub use verdict::VerdictText;
+
+#[cfg(test)]
+mod tests;
