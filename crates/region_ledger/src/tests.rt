@@ -55,3 +55,33 @@ fn adds_up_rows(rt: HostRuntime) -> Result<(), Fail> {
     assert_eq!(rt; totals(rows.as_slice(), 100), expected);
     Ok(())
 }
+
+/// The path counts of the worked programs: each has at most one region.
+#[test]
+fn adds_up_worked_ledgers(rt: HostRuntime) -> Result<(), Fail> {
+    let row = |original, fast, verdict| Row {
+        number: 0,
+        at: 1,
+        pc: 0x10004,
+        original,
+        fast,
+        verdict,
+    };
+    let register = Verdict::Differs(Difference::Register(10));
+    let byte = Verdict::Differs(Difference::Byte(0x7FFF_FEFF));
+    let place = Verdict::Differs(Difference::Place);
+    assert_eq!(rt; totals(&[row(36, 5, Verdict::Kept)], 40).path_count, 9);
+    assert_eq!(rt; totals(&[row(36, 5, register)], 40).path_count, 40);
+    assert_eq!(rt; totals(&[row(36, 5, byte)], 40).path_count, 40);
+    assert_eq!(rt; totals(&[row(36, 11, place)], 40).path_count, 40);
+    assert_eq!(rt; totals(&[row(36, 36, Verdict::Late)], 40).path_count, 40);
+    assert_eq!(rt; totals(&[row(36, 3, Verdict::Stopped)], 40).path_count, 40);
+    assert_eq!(rt; totals(&[row(36, 36, Verdict::Kept)], 40).path_count, 40);
+    assert_eq!(rt; totals(&[row(36, 5, Verdict::Kept)], 44).path_count, 13);
+    assert_eq!(rt; totals(&[row(36, 5, Verdict::Kept)], 37).path_count, 6);
+    assert_eq!(rt; totals(&[row(4, 4, Verdict::Kept)], 8).path_count, 8);
+    for alone_count in [1, 4, 5, 36] {
+        assert_eq!(rt; totals(&[], alone_count).path_count, alone_count);
+    }
+    Ok(())
+}
