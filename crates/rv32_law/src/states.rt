@@ -59,5 +59,4 @@ pub fn output_is_bounded()
         given ++ held ≡ pieces (rv32 input) (fresh s) 0 n → held_size held ≤ n * 2 ^ 20 }
     ensures history { (input : List ℕ) (b : Settings) (start : MachineState) (entries : List Entry) (c : Core MachineState End Difference) →
         IsGuestState input start → IsHistory (rv32 input) b start entries c → length (c.released ++ verified b c) ≤ b.budget * 2 ^ 20 }
-    ensures in_u64 { (n : ℕ) → n ≤ 2 ^ 40 → n * 2 ^ 20 ≤ 2 ^ 60 }
 {}
