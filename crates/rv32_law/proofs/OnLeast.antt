@@ -15,11 +15,12 @@ chosen-none false n h = refl
 pub least-none_each : (p : ℕ → Bool) (n : ℕ) → least p n ≡ None → (k : ℕ) → k < n → p k ≡ false
 unfolding least
 least-none_each p zero h k l = absurd (omega arith)
-least-none_each p (suc n) h k l = by (cases_lt k n)
-  where
-    by : (k < n) ⊎ (n ≤ k) → p k ≡ false
-    by (inl r) = least-none_each p n (or_else-none (least p n) (cond (p n) (Some n) None) h).0 k r
-    by (inr r) = (let same : k ≡ n = omega arith in ap p same ∙ chosen-none (p n) n (or_else-none (least p n) (cond (p n) (Some n) None) h).1)
+least-none_each p (suc n) h k l =
+    let parts = or_else-none (least p n) (cond (p n) (Some n) None) h in
+    elim (cases_lt k n) [
+      | inl below ↦ least-none_each p n parts.0 k below
+      | inr last ↦ (let same : k ≡ n = omega arith in ap p same ∙ chosen-none (p n) n parts.1)
+    ]
 
 pub least-none : (p : ℕ → Bool) (n : ℕ) → ((k : ℕ) → k < n → p k ≡ false) → least p n ≡ None
 unfolding least

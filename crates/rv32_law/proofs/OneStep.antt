@@ -137,18 +137,21 @@ module _ (input : List ℕ) (s : MachineState) (h : IsGuestState input s) where
 
   -- ---- one instruction
 
+  plain : (i : Instr) → StepKeeps input s (after_effect s.regs.pc (with_regs s (regs_effect i s.regs s.memory)))
+  plain i = regs-step (regs_effect i s.regs s.memory) (regs_effect-keeps i s.regs s.memory h.registers)
+
   step_instr-keeps : (fast : Bool) (i : Instr) → StepKeeps input s (step_instr fast input s i)
-  step_instr-keeps fast (Upper op rd imm) = regs-step _ (regs_effect-keeps (Upper op rd imm) s.regs s.memory h.registers)
-  step_instr-keeps fast (Jal rd offset) = regs-step _ (regs_effect-keeps (Jal rd offset) s.regs s.memory h.registers)
-  step_instr-keeps fast (Jalr rd rs1 offset) = regs-step _ (regs_effect-keeps (Jalr rd rs1 offset) s.regs s.memory h.registers)
-  step_instr-keeps fast (Branch c rs1 rs2 offset) = regs-step _ (regs_effect-keeps (Branch c rs1 rs2 offset) s.regs s.memory h.registers)
-  step_instr-keeps fast (Load width rd rs1 offset) = regs-step _ (regs_effect-keeps (Load width rd rs1 offset) s.regs s.memory h.registers)
+  step_instr-keeps fast (Upper op rd imm) = plain (Upper op rd imm)
+  step_instr-keeps fast (Jal rd offset) = plain (Jal rd offset)
+  step_instr-keeps fast (Jalr rd rs1 offset) = plain (Jalr rd rs1 offset)
+  step_instr-keeps fast (Branch c rs1 rs2 offset) = plain (Branch c rs1 rs2 offset)
+  step_instr-keeps fast (Load width rd rs1 offset) = plain (Load width rd rs1 offset)
   step_instr-keeps fast (Store width rs1 rs2 offset) = store-keeps width (address s.regs rs1 offset) (reg s.regs rs2)
-  step_instr-keeps fast (OpImm op rd rs1 imm) = regs-step _ (regs_effect-keeps (OpImm op rd rs1 imm) s.regs s.memory h.registers)
-  step_instr-keeps fast (Op op rd rs1 rs2) = regs-step _ (regs_effect-keeps (Op op rd rs1 rs2) s.regs s.memory h.registers)
-  step_instr-keeps fast Fence = regs-step _ (regs_effect-keeps Fence s.regs s.memory h.registers)
+  step_instr-keeps fast (OpImm op rd rs1 imm) = plain (OpImm op rd rs1 imm)
+  step_instr-keeps fast (Op op rd rs1 rs2) = plain (Op op rd rs1 rs2)
+  step_instr-keeps fast Fence = plain Fence
   step_instr-keeps fast Ecall = service-keeps fast
-  step_instr-keeps fast Ebreak = regs-step _ (regs_effect-keeps Ebreak s.regs s.memory h.registers)
+  step_instr-keeps fast Ebreak = plain Ebreak
 
   step_row-keeps : (fast : Bool) (o : Option Instr) → StepKeeps input s (step_row fast input s o)
   step_row-keeps fast None = λ e. cc
