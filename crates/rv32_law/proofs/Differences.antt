@@ -1,6 +1,6 @@
 -- The guest machine misses no difference: guest states of one layout without a difference are equal, and equal states have
 -- none.
-use Rattle.std.proofs.Common.{◌≡◌, ℕ, ◌^◌, ◌<◌, ◌≤◌, ◌⊎◌, inl, inr, Bool, true, false, not, if◌then◌else◌, ◌==◌, List, [], ◌∷◌, length, get_or, Option, Some, None, option_map, refl, sym, ap, ◌∙◌, eqb-true, eq-eqb, arith}
+use Rattle.std.proofs.Common.{◌≡◌, ℕ, ◌^◌, ◌<◌, ◌≤◌, ◌⊎◌, inl, inr, Bool, true, false, not, if◌then◌else◌, ◌==◌, List, [], ◌∷◌, Option, Some, None, option_map, refl, sym, ap, ◌∙◌, eqb-true, eq-eqb, arith}
 use Rattle.std.proofs.Math.Path.{fun_ext}
 use Rattle.std.proofs.lemmas.Bool.{cases_lt}
 use Rattle.std.proofs.lemmas.List.{ext_get_or}
@@ -11,7 +11,7 @@ use Rattle.speculation.specs.Law.{Exact}
 use Rattle.guest_model.specs.ByteMap.{ByteMap}
 use Rattle.guest_model.specs.Registers.{RegFile, IsRegFile, reg}
 use Rattle.guest_model.specs.MachineState.{MachineState}
-use Rattle.guest_model.specs.Difference.{same_byte, or_else, first_some, least, if_differs, register_difference, byte_difference, difference}
+use Rattle.guest_model.specs.Difference.{same_byte, or_else, first_some, if_differs, register_difference, byte_difference, difference}
 use Rattle.guest_model.specs.Rv32.{rv32}
 use Rattle.guest_model.specs.declared.difference.Difference.{Difference}
 use Rattle.guest_model.specs.declared.difference.Difference.TheVariants.{Pc, Register, Place, Break, Byte}

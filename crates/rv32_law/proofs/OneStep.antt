@@ -1,5 +1,5 @@
 -- One instruction leads from a guest state to a guest state with the same layout, and writes at most 2 ^ 20 bytes.
-use Rattle.std.proofs.Common.{◌≡◌, ◌≢◌, ℕ, ◌+◌, ◌-◌, ◌^◌, ◌%◌, ◌≤◌, min, Bool, true, false, if◌then◌else◌, ◌||◌, ◌==◌, List, [], length, drop, Option, Some, None, Result, Ok, Err, refl, ◌∙◌, arith}
+use Rattle.std.proofs.Common.{◌≡◌, ℕ, ◌+◌, ◌-◌, ◌^◌, ◌%◌, ◌≤◌, min, Bool, true, false, if◌then◌else◌, ◌||◌, ◌==◌, List, [], length, drop, Option, Some, None, Result, Ok, Err, refl, arith}
 use Rattle.std.specs.Int.{w32}
 use Rattle.std.proofs.Math.Nat.{min-le_left, min-le_right}
 use Rattle.std.proofs.lemmas.List.{length-take, length-drop}
@@ -7,7 +7,7 @@ use Rattle.speculation.specs.Machine.{Next, Ends}
 use Rattle.guest_model.specs.ByteMap.{ByteMap, mapped, bytes_from, load}
 use Rattle.guest_model.specs.Registers.{RegFile, IsRegFile, reg, with_pc, with_reg, with_result, next}
 use Rattle.guest_model.specs.MachineState.{MachineState}
-use Rattle.guest_model.specs.Effect.{store_bytes, store_len, store_effect, load_effect, jump, branch, regs_effect, with_regs, address, load_value}
+use Rattle.guest_model.specs.Effect.{store_bytes, store_len, store_effect, load_effect, jump, regs_effect, with_regs, address, load_value}
 use Rattle.guest_model.specs.Arithmetic.{taken}
 use Rattle.guest_model.specs.Word.{sum, word_of}
 use Rattle.guest_model.specs.InstructionTable.{instr}
@@ -22,7 +22,7 @@ use Rattle.guest_model.specs.declared.instr.Instr.TheVariants.{Upper, Jal, Jalr,
 use Rattle.guest_model.specs.declared.instr.StoreWidth.{StoreWidth}
 use Rattle.guest_model.specs.declared.instr.StoreWidth.TheVariants as S
 use Rattle.guest_model.proofs.OnByteMap.{length-bytes_from}
-use Rattle.rv32_law.specs.GuestStates.{IsGuestState, KeepsState, GoesOn, StepKeeps}
+use Rattle.rv32_law.specs.GuestStates.{IsGuestState, KeepsState, StepKeeps}
 use Rattle.rv32_law.proofs.Keeping.{KeepsState-refl, KeepsState-trans, with_reg-keeps, with_pc-keeps, with_result-keeps, with_regs-keeps, with_brk-keeps, write-keeps}
 
 -- ---- the instructions that change registers alone

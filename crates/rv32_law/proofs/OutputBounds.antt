@@ -1,11 +1,11 @@
 -- How much a run writes: at most 2 ^ 20 bytes an instruction
-use Rattle.std.proofs.Common.{◌≡◌, ℕ, zero, suc, ◌+◌, ◌*◌, ◌^◌, ◌≤◌, false, List, [], ◌∷◌, ◌++◌, length, Option, Some, None, refl, sym, ap, ◌∙◌, subst, length-append, arith}
+use Rattle.std.proofs.Common.{◌≡◌, ℕ, zero, suc, ◌+◌, ◌*◌, ◌^◌, ◌≤◌, false, List, [], ◌∷◌, ◌++◌, length, Option, Some, None, refl, sym, ap, ◌∙◌, length-append, arith}
 use Rattle.speculation.specs.declared.tracks.Kind.{Kind}
 use Rattle.speculation.specs.declared.tracks.Kind.TheVariants.{Normal, Fast, Segment}
 use Rattle.speculation.specs.declared.history.Settings.{Settings}
 use Rattle.speculation.specs.declared.history.Entry.{Entry}
 use Rattle.speculation.specs.Machine.{Next, Ends}
-use Rattle.speculation.specs.Run.{Piece, Mark, Point, marked, marks, fresh, go, piece_of, wrote, pieces, out}
+use Rattle.speculation.specs.Run.{Piece, Point, marked, marks, fresh, go, piece_of, wrote, pieces, out}
 use Rattle.speculation.specs.Record.{IsPrefixOf, output_of, alone}
 use Rattle.speculation.specs.Tracks.{point}
 use Rattle.speculation.specs.Core.{Core, held_size, verified}
@@ -60,8 +60,12 @@ module _ (input : List ℕ) where
   pieces-bound p k zero h = omega arith
   pieces-bound p k (suc n) h =
       let last : List Piece = wrote (rv32 input) (suc (k + n)) (go (rv32 input) p n).state (go (rv32 input) p n).end in
-      omega (arith, held_size-append (pieces (rv32 input) p k n) last, pieces-bound p k n h,
-      wrote-bound (suc (k + n)) (go (rv32 input) p n).state (go (rv32 input) p n).end (go-keeps input p n h).state)
+      omega (
+        arith,
+        held_size-append (pieces (rv32 input) p k n) last,
+        pieces-bound p k n h,
+        wrote-bound (suc (k + n)) (go (rv32 input) p n).state (go (rv32 input) p n).end (go-keeps input p n h).state,
+      )
 
   pub out-bound : (p : Point MachineState End) (n : ℕ) → IsGuestState input p.state → length (out (rv32 input) p n) ≤ n * 2 ^ 20
   unfolding out
@@ -82,5 +86,9 @@ module _ (input : List ℕ) where
       → length (c.released ++ verified b c) ≤ b.budget * 2 ^ 20
   history-bound b start entries c h legal =
       let whole : length (output_of (alone (rv32 input) start b.budget)) ≡ length (out (rv32 input) (fresh start) b.budget) = ap length (output-alone (rv32 input) start b.budget) in
-      omega (arith, whole, length-prefix (c.released ++ verified b c) (output_of (alone (rv32 input) start b.budget)) (law-partial (rv32 input) b start entries c (exact-rv32 input start h) legal).output,
-      out-bound (fresh start) b.budget h)
+      omega (
+        arith,
+        whole,
+        length-prefix (c.released ++ verified b c) (output_of (alone (rv32 input) start b.budget)) (law-partial (rv32 input) b start entries c (exact-rv32 input start h) legal).output,
+        out-bound (fresh start) b.budget h,
+      )

@@ -1,8 +1,8 @@
 -- What a program reaches from a guest state: guest states with the same layout, and ends of its own
-use Rattle.std.proofs.Common.{◌≡◌, ◌≢◌, ℕ, zero, suc, false, List, Option, Some, None, refl, subst}
+use Rattle.std.proofs.Common.{◌≡◌, ◌≢◌, ℕ, zero, suc, false, List, Option, Some, None, subst}
 use Rattle.speculation.specs.declared.tracks.Kind.{Kind}
 use Rattle.speculation.specs.declared.tracks.Kind.TheVariants.{Normal, Fast, Segment}
-use Rattle.speculation.specs.Machine.{Stepped, Next, Ends}
+use Rattle.speculation.specs.Machine.{Next, Ends}
 use Rattle.speculation.specs.Run.{Point, fresh, moved, advanced, go}
 use Rattle.speculation.specs.Tracks.{point}
 use Rattle.guest_model.specs.MachineState.{MachineState}
