@@ -21,6 +21,6 @@ loop-piece-preserved c =
           c.in_default.ensures.ok ∙ ap (λ (ms : List Mark). ms ++ marked c.piece.inside.stream c.as_slice.result.now) c.loop-piece.invariant.so_far
           ∙ append_assoc (chunk_marks c.args.chunks.now.items) (marks (take c.loop-piece.piece-index c.args.pieces.now)) (marked c.piece.inside.stream c.as_slice.result.now)
           ∙ ap (λ (ms : List Mark). chunk_marks c.args.chunks.now.items ++ ms)
-            (ap (λ (bs : List ℕ). marks (take c.loop-piece.piece-index c.args.pieces.now) ++ marked c.piece.inside.stream bs) c.as_slice.ensures
-            ∙ ap (λ (p : Piece). marks (take c.loop-piece.piece-index c.args.pieces.now) ++ marked p.stream p.bytes) c.piece.view_is ∙ sym next);
+          (ap (λ (bs : List ℕ). marks (take c.loop-piece.piece-index c.args.pieces.now) ++ marked c.piece.inside.stream bs) c.as_slice.ensures
+          ∙ ap (λ (p : Piece). marks (take c.loop-piece.piece-index c.args.pieces.now) ++ marked p.stream p.bytes) c.piece.view_is ∙ sym next);
     }
