@@ -1,0 +1,2 @@
+pub mod OnHeld
+pub mod OnChunks
