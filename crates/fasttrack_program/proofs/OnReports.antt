@@ -1,9 +1,8 @@
 -- The report of a trial is the program's, and on `out` it is what the task writes
-use Rattle.std.proofs.Common.{◌≡◌, ℕ, List, [], ◌∷◌, ◌++◌, map, Option, Some, None, ◌⊎◌, inl, inr, refl, sym, ap, ◌∙◌, subst}
+use Rattle.std.proofs.Common.{◌≡◌, ℕ, List, [], ◌∷◌, ◌++◌, map, Option, Err, inl, refl, sym, ap, ◌∙◌, subst}
 use Rattle.std.specs.Io.KnownBytes.{Appends}
 use Rattle.speculation.specs.Run.{marked}
 use Rattle.speculation.specs.Ledger.{ledger}
-use Rattle.host_io.specs.Faults.{Rose}
 use Rattle.elf32_loader.specs.LoadedImage.{image_of_loaded}
 use Rattle.elf32_loader.specs.declared.loaded.Loaded.{Loaded}
 use Rattle.guest_model.specs.Image.{program_alone, start_of}
@@ -18,8 +17,11 @@ use Rattle.region_trial.specs.Trials.{IsTrialOf}
 use Rattle.region_trial.specs.declared.trial.Trial.{Trial}
 use Rattle.fasttrack_program.specs.GuestStreams.{end_of, Sinks, GetsAll, GetsPart, StopsShort}
 use Rattle.fasttrack_program.specs.Reports.{report, told_verdict, told_row, program_report}
-use Rattle.fasttrack_program.specs.TextOnSink.{GotBeginning, StoppedInText}
+use Rattle.fasttrack_program.specs.TextOnSink.{WritesText}
+use Rattle.fasttrack_program.specs.declared.alone.OutputFault.{OutputFault}
+use Rattle.fasttrack_program.specs.declared.alone.OutputFault.TheVariants.{Write, NoMemory}
 use Rattle.fasttrack_program.proofs.OnStreams.{marked-append, IsNext-marked, Gets-on_out}
+use Rattle.fasttrack_program.proofs.OnTexts.{WritesText-as}
 
 -- ---- the rows of the theory, as they are told
 
@@ -60,20 +62,31 @@ parts_marked got rest text e = sym (marked-append 1 got rest) ∙ ap (marked 1) 
 pub text_shown : (s : Sinks) (told : Option (List ℕ)) (faults : ℕ) (text : List ℕ) → Appends s.out told text → faults ≡ s.out_faults → GetsAll s (record s { out = told; out_faults = faults }) (marked 1 text)
 text_shown s told faults text a c = record { gets = Gets-on_out s told faults text a; calm = record { on_out = c; on_notes = refl } }
 
-pub text_stops : (s : Sinks) (told : Option (List ℕ)) (faults : ℕ) (text : List ℕ) → StoppedInText s.out told text → Rose s.out_faults faults → StopsShort s (record s { out = told; out_faults = faults }) (marked 1 text)
-text_stops s told faults text h r = record {
-  got = marked 1 h.beginning.got;
-  rest = marked 1 h.beginning.rest;
-  parts = parts_marked h.beginning.got h.beginning.rest text h.beginning.parts;
-  gets = Gets-on_out s told faults h.beginning.got h.beginning.appends;
-  fails = inl (r, refl, IsNext-marked 1 h.beginning.rest h.more);
-}
+-- the fault of a text by another name
+as_fault : (s : Sinks) (told : Option (List ℕ)) (faults : ℕ) (said text : List ℕ) (e f : OutputFault) → said ≡ text → e ≡ f
+    → WritesText {T = Unit {0}} s.out told s.out_faults faults said (Err e) → WritesText {T = Unit {0}} s.out told s.out_faults faults text (Err f)
+as_fault s told faults said text e f is why w = WritesText-as {T = Unit {0}} s.out told s.out_faults faults said text (Err f) is (subst (λ k. WritesText {T = Unit {0}} s.out told s.out_faults faults said (Err k)) why w)
 
-pub text_within : (s : Sinks) (told : Option (List ℕ)) (faults : ℕ) (text : List ℕ) → GotBeginning s.out told text → faults ≡ s.out_faults → GetsPart s (record s { out = told; out_faults = faults }) (marked 1 text)
-text_within s told faults text h c = record {
-  got = marked 1 h.got;
-  rest = marked 1 h.rest;
-  parts = parts_marked h.got h.rest text h.parts;
-  gets = Gets-on_out s told faults h.got h.appends;
-  calm = record { on_out = c; on_notes = refl };
-}
+pub text_stops : (s : Sinks) (told : Option (List ℕ)) (faults : ℕ) (said text : List ℕ) (e : OutputFault) → said ≡ text → e ≡ Write
+    → WritesText {T = Unit {0}} s.out told s.out_faults faults said (Err e) → StopsShort s (record s { out = told; out_faults = faults }) (marked 1 text)
+text_stops s told faults said text e is why w =
+    let h = as_fault s told faults said text e Write is why w in
+    record {
+      got = marked 1 h.0.beginning.got;
+      rest = marked 1 h.0.beginning.rest;
+      parts = parts_marked h.0.beginning.got h.0.beginning.rest text h.0.beginning.parts;
+      gets = Gets-on_out s told faults h.0.beginning.got h.0.beginning.appends;
+      fails = inl (h.1, refl, IsNext-marked 1 h.0.beginning.rest h.0.more);
+    }
+
+pub text_within : (s : Sinks) (told : Option (List ℕ)) (faults : ℕ) (said text : List ℕ) (e : OutputFault) → said ≡ text → e ≡ NoMemory
+    → WritesText {T = Unit {0}} s.out told s.out_faults faults said (Err e) → GetsPart s (record s { out = told; out_faults = faults }) (marked 1 text)
+text_within s told faults said text e is why w =
+    let h = as_fault s told faults said text e NoMemory is why w in
+    record {
+      got = marked 1 h.0.got;
+      rest = marked 1 h.0.rest;
+      parts = parts_marked h.0.got h.0.rest text h.0.parts;
+      gets = Gets-on_out s told faults h.0.got h.0.appends;
+      calm = record { on_out = h.1; on_notes = refl };
+    }

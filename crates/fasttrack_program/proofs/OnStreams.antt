@@ -83,7 +83,7 @@ Gets-on_notes s told faults bs h = record {
 parts_of : (stream n : ℕ) (bs : List ℕ) → marked stream (take n bs) ++ marked stream (drop n bs) ≡ marked stream bs
 parts_of stream n bs = sym (marked-append stream (take n bs) (drop n bs)) ∙ ap (marked stream) (take-append-drop n bs)
 
-left_over : (n : ℕ) (bs : List ℕ) → n < length bs → 0 < length (drop n bs)
+pub left_over : (n : ℕ) (bs : List ℕ) → n < length bs → 0 < length (drop n bs)
 left_over n bs h = simp length-drop (omega arith)
 
 WritesPiece-on_1 : {T E : Type 0} (s : Sinks) (told : Option (List ℕ)) (faults : ℕ) (bs : List ℕ) (r : Result T E) → WritesWhole s.out told r bs → CountsFaults s.out_faults faults r → WritesPiece s (record s { out = told; out_faults = faults }) (marked 1 bs) r

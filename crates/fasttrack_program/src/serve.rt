@@ -76,20 +76,20 @@ fn run_image<O: Sink, N: Sink>(
 /// Reads the image and, unless the input is to be left unread, the input, and does the task of the request.
 pub fn serve_request<F: Files, I: Source, O: Sink, N: Sink>(
     alloc: Global,
-    request: Request<'_>,
+    request: &Request<'_>,
     files: &mut F,
     input: &mut I,
     out: &mut O,
     notes: &mut N,
 ) -> Answer
-    requires within { request.budget ≤ 2 ^ 40 }
-    ensures served { IsServed (Some (record { task = request.task; image = request.image.now; budget = request.budget; no_input = request.no_input }))
-        (F.contents files.old request.image.now) (I.remaining input.old)
+    requires within { request.now.budget ≤ 2 ^ 40 }
+    ensures served { IsServed (Some (record { task = request.now.task; image = request.now.image.now; budget = request.now.budget; no_input = request.now.no_input }))
+        (F.contents files.old request.now.image.now) (I.remaining input.old)
         (record { out = O.contents out.old; out_faults = O.faults out.old; notes = N.contents notes.old; notes_faults = N.faults notes.old })
         (record { out = O.contents out.new; out_faults = O.faults out.new; notes = N.contents notes.new; notes_faults = N.faults notes.new })
         result }
-    ensures read_fault { result ≡ Answer.ReadFault → Rose (F.faults files.old) (F.faults files.new) ⊎ ((request.no_input ≡ false) × Rose (I.faults input.old) (I.faults input.new)) }
-    ensures unread { request.no_input ≡ true → input.new ≡ input.old }
+    ensures read_fault { result ≡ Answer.ReadFault → Rose (F.faults files.old) (F.faults files.new) ⊎ ((request.now.no_input ≡ false) × Rose (I.faults input.old) (I.faults input.new)) }
+    ensures unread { request.now.no_input ≡ true → input.new ≡ input.old }
     ensures early { IsRefusedEarly result → input.new ≡ input.old }
     ensures held { F.contents files.new ≡ F.contents files.old }
 {
@@ -98,7 +98,7 @@ pub fn serve_request<F: Files, I: Source, O: Sink, N: Sink>(
         image,
         budget,
         no_input,
-    } = request;
+    } = *request;
     let loaded = match read_image(alloc, files, image) {
         Ok(loaded) => loaded,
         Err(answer) => return answer,

@@ -69,5 +69,5 @@ fn serve_words<F: Files, I: Source, O: Sink, N: Sink>(
         Err(WordsFault::Usage) => return Answer::Usage,
         Err(WordsFault::NoMemory) => return Answer::NoMemory,
     };
-    serve_request(alloc, request, files, input, out, notes)
+    serve_request(alloc, &request, files, input, out, notes)
 }

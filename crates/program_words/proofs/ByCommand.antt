@@ -198,13 +198,13 @@ text_reads f id s is = ap (λ t. unwrap_or t []) (is ∙ first_value-rows f id)
 
 -- the task of a name that is the value, by the test whether it is `trial`
 pub task_trial : (name value : Text) (test : Bool) → name ≡ value → test ≡ bytes_eq name (codes "trial") → test ≡ true → Trial ≡ task_of value
-task_trial name value test same eq yes =
-    let is : bytes_eq value (codes "trial") ≡ true = ap (λ t. bytes_eq t (codes "trial")) (sym same) ∙ sym eq ∙ yes in
+task_trial name value test same eq is_trial =
+    let is : bytes_eq value (codes "trial") ≡ true = ap (λ t. bytes_eq t (codes "trial")) (sym same) ∙ sym eq ∙ is_trial in
     rw is refl
 
 pub task_alone : (name value : Text) (test : Bool) → name ≡ value → test ≡ bytes_eq name (codes "trial") → test ≡ false → Alone ≡ task_of value
-task_alone name value test same eq no_trial =
-    let is : bytes_eq value (codes "trial") ≡ false = ap (λ t. bytes_eq t (codes "trial")) (sym same) ∙ sym eq ∙ no_trial in
+task_alone name value test same eq other =
+    let is : bytes_eq value (codes "trial") ≡ false = ap (λ t. bytes_eq t (codes "trial")) (sym same) ∙ sym eq ∙ other in
     rw is refl
 
 -- no text is the empty value
