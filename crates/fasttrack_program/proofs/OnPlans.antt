@@ -10,7 +10,6 @@ use Rattle.basic_types.specs.declared.bytes.Bytes.{Bytes}
 use Rattle.guest_model.specs.Image.{Image, program_alone}
 use Rattle.fasttrack_program.specs.GuestStreams.{Sinks}
 use Rattle.program_words.specs.CommandLine.{Request}
-use Rattle.program_words.specs.declared.request.Task.{Task}
 use Rattle.program_words.specs.declared.request.Task.TheVariants.{Alone, Trial}
 use Rattle.fasttrack_program.specs.Plan.{Plan, Refused, Runs, LongInput, image_in, input_limit, with_image, with_input, plan}
 use Rattle.fasttrack_program.specs.Reading.{IsTold, ReadsImage, ReadsInput}

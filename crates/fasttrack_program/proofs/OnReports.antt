@@ -9,7 +9,7 @@ use Rattle.guest_model.specs.Image.{program_alone, start_of}
 use Rattle.guest_model.specs.Rv32.{rv32}
 use Rattle.guest_model.specs.declared.end.End.{End}
 use Rattle.guest_model.specs.declared.end.End.TheVariants.{Exit, Trap, Spent}
-use Rattle.region_ledger.specs.Ledger.{core_verdict, ledger_row, ledger_rows, core_end, totals_of}
+use Rattle.region_ledger.specs.Ledger.{core_verdict, ledger_row, ledger_rows, core_end}
 use Rattle.region_ledger.specs.declared.row.Row.{Row}
 use Rattle.region_ledger.specs.declared.verdict.Verdict.{Verdict}
 use Rattle.region_ledger.specs.declared.verdict.Verdict.TheVariants.{Kept, Differs, Stopped, Late}
@@ -51,8 +51,8 @@ trial_report l input budget t h =
     let count : t.finished.count ≡ (program_alone (image_of_loaded l) input budget).count = ap (λ f. f.count) h.finished in
     let end : t.finished.end ≡ end_of (program_alone (image_of_loaded l) input budget).end = sym (end_of-back t.finished.end) ∙ ap (λ f. end_of f.end) h.finished in
     ap (λ xs. report xs t.finished.count t.finished.end) rows
-        ∙ ap (λ n. report (map told_row (ledger (rv32 input) (start_of (image_of_loaded l)) budget)) n t.finished.end) count
-        ∙ ap (λ e. report (map told_row (ledger (rv32 input) (start_of (image_of_loaded l)) budget)) (program_alone (image_of_loaded l) input budget).count e) end
+    ∙ ap (λ n. report (map told_row (ledger (rv32 input) (start_of (image_of_loaded l)) budget)) n t.finished.end) count
+    ∙ ap (λ e. report (map told_row (ledger (rv32 input) (start_of (image_of_loaded l)) budget)) (program_alone (image_of_loaded l) input budget).count e) end
 
 -- ---- a text on `out`
 

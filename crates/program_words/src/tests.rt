@@ -19,7 +19,13 @@ fn makes_requests(rt: HostRuntime) -> Result<(), Fail> {
         ("trial x", Task::Trial, "x", 1 << 40, false),
         ("alone trial", Task::Alone, "trial", 1 << 40, false),
         ("alone x --budget 5 --no-input", Task::Alone, "x", 5, true),
-        ("--no-input --budget=7 trial dir/x", Task::Trial, "dir/x", 7, true),
+        (
+            "--no-input --budget=7 trial dir/x",
+            Task::Trial,
+            "dir/x",
+            7,
+            true,
+        ),
         (
             "alone --budget 1099511627776 -- --help",
             Task::Alone,

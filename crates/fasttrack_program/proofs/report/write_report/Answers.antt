@@ -21,7 +21,7 @@ returns-in_err-write_totals g c =
     let end = end_line c.args.finished.now.end in
     let rows = TextSoFar-next _ _ _ _ _ _ text (rows_text c.args.rows.now) (totals ++ end) c.in_ok-write_rows.field-0 (TextSoFar-first _ _ text) c.in_ok-write_rows.ensures in
     let written = WritesText-as {T = Unit {0}} (g.O.Sink.contents c.write_rows.new.out) (g.O.Sink.contents c.write_totals.new.out) (g.O.Sink.faults c.write_rows.new.out) (g.O.Sink.faults c.write_totals.new.out)
-        (totals_line c.totals.result) totals (Err c.in_err-write_totals.field-0.0) (ap totals_line c.totals.ensures.counts) c.in_err-write_totals.ensures in
+    (totals_line c.totals.result) totals (Err c.in_err-write_totals.field-0.0) (ap totals_line c.totals.ensures.counts) c.in_err-write_totals.ensures in
     rw (p.1, p.2) (TextSoFar-stops (Unit {0}) (Unit {0}) _ _ _ _ _ _ text totals end c.in_err-write_totals.field-0.0 rows written)
 
 pub returns : goal.returns

@@ -1,6 +1,5 @@
-use Rattle.std.proofs.Common.{◌+◌, drop, get_or, subst}
+use Rattle.std.proofs.Common.{◌+◌, drop, subst}
 use Rattle.std.proofs.lemmas.Result.{err_from_is_err_and}
-use Rattle.report_text.specs.Reports.{row_line}
 use Rattle.fasttrack_program.specs.Reports.{rows_text}
 use Rattle.fasttrack_program.proofs.OnTexts.{TextSoFar, TextSoFar-next, TextSoFar-stops, rows_next}
 use Rattle.fasttrack_program.proofs.report.write_rows.Goals as goal

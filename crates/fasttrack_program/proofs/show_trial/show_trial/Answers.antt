@@ -1,4 +1,4 @@
-use Rattle.std.proofs.Common.{◌≡◌, ap, ◌∙◌}
+use Rattle.std.proofs.Common.{ap, ◌∙◌}
 use Rattle.elf32_loader.specs.LoadedImage.{image_of_loaded}
 use Rattle.fasttrack_program.specs.GuestStreams.{Sinks}
 use Rattle.fasttrack_program.specs.Reports.{report, program_report}
