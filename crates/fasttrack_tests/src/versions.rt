@@ -17,11 +17,15 @@ const STOPPED: &str = "kept 0 differs 0 stopped 1 late 0";
 
 const LATE: &str = "kept 0 differs 0 stopped 0 late 1";
 
-/// `SUM` with another fast part. Its end moves behind the part, and the jump over the part goes there.
+/// `SUM` with another fast part, of at most a hundred instructions. Its end moves behind the part, and the jump over the
+/// part goes there.
 fn with_fast_part(alloc: Global, part: &[u32]) -> Result<Vec<u32>, Fail> {
-    let offset = (part.len() as u32).wrapping_mul(4).wrapping_add(4);
+    if part.len() > 100 {
+        return Ok(Vec::new(alloc));
+    }
+    let offset = 4 * part.len() as u32 + 4;
     let mut words = Vec::from_slice(alloc, &SUM[..8])?;
-    words.push(0x0000_006F | offset.wrapping_mul(0x0010_0000))?;
+    words.push(0x0000_006F + offset * 0x0010_0000)?;
     words.extend_from_slice(part)?;
     words.extend_from_slice(&SUM[11..])?;
     Ok(words)
