@@ -1,5 +1,5 @@
 -- The report of a trial is the program's, and on `out` it is what the task writes
-use Rattle.std.proofs.Common.{◌≡◌, ℕ, List, [], ◌∷◌, ◌++◌, ◌<◌, length, drop, get_or, map, Option, Err, ◌⊎◌, inl, inr, arith, refl, sym, ap, ◌∙◌, subst}
+use Rattle.std.proofs.Common.{◌≡◌, ℕ, List, [], ◌∷◌, ◌++◌, ◌<◌, length, drop, get_or, map, Option, Err, inl, inr, arith, refl, sym, ap, ◌∙◌, subst}
 use Rattle.std.specs.Io.KnownBytes.{Appends}
 use Rattle.speculation.specs.Run.{Mark, marked, stream_bytes}
 use Rattle.speculation.specs.Ledger.{ledger}
