@@ -1,8 +1,9 @@
 -- The report of a trial is the program's, and on `out` it is what the task writes
-use Rattle.std.proofs.Common.{◌≡◌, ℕ, List, [], ◌∷◌, ◌++◌, map, Option, Err, inl, refl, sym, ap, ◌∙◌, subst}
+use Rattle.std.proofs.Common.{◌≡◌, ℕ, List, [], ◌∷◌, ◌++◌, ◌<◌, length, drop, get_or, map, Option, Err, inl, inr, arith, refl, sym, ap, ◌∙◌, subst}
 use Rattle.std.specs.Io.KnownBytes.{Appends}
-use Rattle.speculation.specs.Run.{marked}
+use Rattle.speculation.specs.Run.{Mark, marked, stream_bytes}
 use Rattle.speculation.specs.Ledger.{ledger}
+use Rattle.host_io.specs.Faults.{Rose}
 use Rattle.elf32_loader.specs.LoadedImage.{image_of_loaded}
 use Rattle.elf32_loader.specs.declared.loaded.Loaded.{Loaded}
 use Rattle.guest_model.specs.Image.{program_alone, start_of}
@@ -15,12 +16,12 @@ use Rattle.region_ledger.specs.declared.verdict.Verdict.{Verdict}
 use Rattle.region_ledger.specs.declared.verdict.Verdict.TheVariants.{Kept, Differs, Stopped, Late}
 use Rattle.region_trial.specs.Trials.{IsTrialOf}
 use Rattle.region_trial.specs.declared.trial.Trial.{Trial}
-use Rattle.fasttrack_program.specs.GuestStreams.{end_of, Sinks, GetsAll, GetsPart, StopsShort}
+use Rattle.fasttrack_program.specs.GuestStreams.{end_of, Sinks, GetsAll, GetsPart, IsNext, FailsAt, StopsShort}
 use Rattle.fasttrack_program.specs.Reports.{report, told_verdict, told_row, program_report}
-use Rattle.fasttrack_program.specs.TextOnSink.{WritesText}
+use Rattle.fasttrack_program.specs.TextOnSink.{StoppedInText, WritesText}
 use Rattle.fasttrack_program.specs.declared.alone.OutputFault.{OutputFault}
 use Rattle.fasttrack_program.specs.declared.alone.OutputFault.TheVariants.{Write, NoMemory}
-use Rattle.fasttrack_program.proofs.OnStreams.{marked-append, IsNext-marked, Gets-on_out}
+use Rattle.fasttrack_program.proofs.OnStreams.{stream_bytes-own_1, marked-append, IsNext-marked, Gets-on_out}
 use Rattle.fasttrack_program.proofs.OnTexts.{WritesText-as}
 
 -- ---- the rows of the theory, as they are told
@@ -90,3 +91,48 @@ text_within s told faults said text e is why w =
       gets = Gets-on_out s told faults h.0.got h.0.appends;
       calm = record { on_out = h.1; on_notes = refl };
     }
+
+-- ---- what is left on `out` where a text stops short
+
+-- a beginning and an end of a text's marked bytes, as those of the text
+record Cut (text : List ℕ) (got rest : List Mark) : Type 0 where
+  pub first : List ℕ
+  pub last : List ℕ
+  pub parts : first ++ last ≡ text
+  pub got_is : got ≡ marked 1 first
+  pub rest_is : rest ≡ marked 1 last
+
+cut_text : (text : List ℕ) (got rest : List Mark) → got ++ rest ≡ marked 1 text → Cut text got rest
+cut_text text [] rest e = record { first = []; last = text; parts = refl; got_is = refl; rest_is = e }
+cut_text [] (m ∷ ms) rest e = cc
+cut_text (b ∷ bs) (m ∷ ms) rest e =
+    let below = cut_text bs ms rest (ap (λ xs. drop 1 xs) e) in
+    let head : m ≡ record { stream = 1; byte = b } = ap (λ xs. get_or xs 0 m) e in
+    record {
+      first = b ∷ below.first;
+      last = below.last;
+      parts = ap (λ xs. b ∷ xs) below.parts;
+      got_is = ap (λ x. x ∷ ms) head ∙ ap (λ xs. (record { stream = 1; byte = b }) ∷ xs) below.got_is;
+      rest_is = below.rest_is;
+    }
+
+next_of_text : (text : List ℕ) → IsNext 1 (marked 1 text) → 0 < length text
+next_of_text [] h = absurd h
+next_of_text (b ∷ bs) h = omega arith
+
+not_of_text : (text : List ℕ) → IsNext 2 (marked 1 text) → ⊥
+not_of_text [] h = h
+not_of_text (b ∷ bs) h = omega (arith, h)
+
+on_out : (old new : Sinks) (text : List ℕ) → FailsAt old new (marked 1 text) → (0 < length text) × Rose old.out_faults new.out_faults
+on_out old new text (inl h) = (next_of_text text h.2, h.0)
+on_out old new text (inr h) = absurd (not_of_text text h.2)
+
+pub stops_on_out : (old new : Sinks) (text : List ℕ) → StopsShort old new (marked 1 text) → StoppedInText old.out new.out text × Rose old.out_faults new.out_faults
+stops_on_out old new text h =
+    let cut = cut_text text h.got h.rest h.parts in
+    let fails = on_out old new cut.last (subst (FailsAt old new) cut.rest_is h.fails) in
+    let appends = subst (Appends old.out new.out) (ap (stream_bytes 1) cut.got_is ∙ stream_bytes-own_1 cut.first) h.gets.stream_1 in (
+      record { beginning = record { got = cut.first; rest = cut.last; parts = cut.parts; appends = appends }; more = fails.0 },
+      fails.1,
+    )

@@ -43,7 +43,7 @@ FailsAt-from s t u rest more c (inr h) = inr (subst (λ n. Rose n u.notes_faults
 
 -- ---- one piece
 
-stream_bytes-own_1 : (bs : List ℕ) → stream_bytes 1 (marked 1 bs) ≡ bs
+pub stream_bytes-own_1 : (bs : List ℕ) → stream_bytes 1 (marked 1 bs) ≡ bs
 stream_bytes-own_1 [] = refl
 stream_bytes-own_1 (b ∷ bs) = ap (λ xs. b ∷ xs) (stream_bytes-own_1 bs)
 

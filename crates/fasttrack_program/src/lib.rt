@@ -5,6 +5,7 @@ mod alone;
 mod answer;
 mod answer_line;
 mod fault_text;
+pub mod laws;
 mod read;
 mod report;
 mod serve;
