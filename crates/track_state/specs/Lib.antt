@@ -1,0 +1,4 @@
+pub mod Kept
+pub mod Views
+pub mod Runs
+pub mod Transitions
