@@ -1,9 +1,14 @@
 //! Verified bytes in the order in which they are handed out, each run of one stream as one chunk.
 
-ghost use Rattle.std.specs.Prelude.{◌≡◌, ◌-◌, ◌^◌, [], ◌==◌, length, min};
+ghost use Rattle.std.specs.Prelude.{◌≡◌, ◌-◌, ◌^◌, ◌<◌, [], ◌++◌, ◌==◌, length, min, All, OnOk, OnErr};
+ghost use Rattle.speculation.specs.Run.{marks};
+ghost use Rattle.speculation.specs.Core.{held_size};
+ghost use Rattle.held_output.specs.Held.{IsStream};
 ghost use Rattle.held_output.specs.Chunks.{AreChunks, chunk_marks};
 
-use basic_types::Bytes;
+use crate::join::join_all;
+use crate::piece::Piece;
+use basic_types::{Bytes, NoMemory};
 use std::alloc::Global;
 use std::marker::Model;
 
@@ -62,7 +67,7 @@ impl Chunks {
     pub fn is_empty(&self) -> bool
         ensures { result ≡ (length self.now == 0) }
     {
-        self.chunks.is_empty()
+        self.size == 0
     }
 
     /// The number of bytes, or `u64::MAX` where it is greater. It takes constant time.
@@ -70,5 +75,20 @@ impl Chunks {
         ensures { result ≡ min (length self.now) (2 ^ 64 - 1) }
     {
         self.size
+    }
+
+    /// Appends the bytes of these pieces, or nothing.
+    ///
+    /// # Errors
+    /// `NoMemory` where there is no room for all of them; the chunks are then as before.
+    pub(crate) fn append(&mut self, pieces: &[Piece]) -> Result<(), NoMemory>
+        requires streams { All (λ p. IsStream p.stream) pieces.now }
+        requires fits { held_size pieces.now < 2 ^ 64 }
+        ensures ok { OnOk result (self.new ≡ self.old ++ marks pieces.now) }
+        ensures err { OnErr result (self.new ≡ self.old) }
+    {
+        let count = join_all(&mut self.chunks, self.alloc, pieces)?;
+        self.size = self.size.saturating_add(count);
+        Ok(())
     }
 }

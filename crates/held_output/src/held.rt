@@ -1,18 +1,19 @@
 //! The pieces that a track holds back.
 
-ghost use Rattle.std.specs.Prelude.{◌≡◌, ◌+◌, ◌^◌, ◌<◌, [], ◌∷◌, ◌++◌, ◌==◌, length, All, IsTrue, OnOk, OnErr, MatchResult};
+ghost use Rattle.std.specs.Prelude.{◌≡◌, ◌+◌, ◌^◌, ◌<◌, ◌≤◌, [], ◌∷◌, ◌++◌, ◌==◌, length, take, drop, All, IsTrue, IfOk, OnOk, OnErr, MatchResult};
 ghost use Rattle.guest_model.specs.ByteMap.{mapped, bytes_from};
 ghost use Rattle.speculation.specs.Run.{marks_upto};
 ghost use Rattle.speculation.specs.Core.{held_size};
 ghost use Rattle.speculation.specs.Events.{left_over};
-ghost use Rattle.held_output.specs.Held.{IsStream, IsHeld, taken_upto};
+ghost use Rattle.held_output.specs.Held.{IsStream, IsHeld, Rises, taken_upto};
 
 use crate::chunks::Chunks;
 use crate::piece::Piece;
-use basic_types::NoMemory;
+use basic_types::{Bytes, NoMemory};
 use guest_model::Memory;
 use std::alloc::Global;
 use std::marker::Model;
+use std::mem;
 
 /// The pieces of output that a track holds back, in the order of their numbers, which rise.
 ///
@@ -87,18 +88,34 @@ impl Held {
         ensures err { OnErr result (self.new ≡ self.old) }
         ensures sound { IsHeld self.new }
     {
-        Err(NoMemory)
+        let bytes = copy_of(self.alloc, memory, at, count)?;
+        self.pieces.push(Piece {
+            number,
+            stream,
+            bytes,
+        })?;
+        self.size += count as u64;
+        Ok(())
     }
 
     /// Takes out the pieces that are numbered at most `limit`. No byte is copied.
     ///
     /// # Errors
-    /// `NoMemory` where there is no room for their list; the pieces are then as before.
+    /// `NoMemory` where there is no room for the list of the others; the pieces are then as before.
     pub fn cut(&mut self, limit: u64) -> Result<Held, NoMemory>
         ensures cut { MatchResult result (λ taken. (taken ≡ taken_upto limit self.old) × (self.new ≡ left_over limit self.old)) (λ _. self.new ≡ self.old) }
         ensures sound { IsHeld self.new }
     {
-        Err(NoMemory)
+        let count = count_upto(&self.pieces, limit);
+        let rest = self.pieces.split_off(count)?;
+        let pieces = mem::replace(&mut self.pieces, rest);
+        let size = total(&pieces);
+        self.size -= size;
+        Ok(Held {
+            alloc: self.alloc,
+            pieces,
+            size,
+        })
     }
 
     /// Drops the pieces that are numbered at most `limit`. It takes no memory.
@@ -106,7 +123,9 @@ impl Held {
         ensures rest { self.new ≡ left_over limit self.old }
         ensures sound { IsHeld self.new }
     {
-        self.pieces.retain(|piece| piece.number > limit);
+        let count = count_upto(&self.pieces, limit);
+        self.size -= total(&self.pieces[..count]);
+        self.pieces.drain(..count);
     }
 
     /// The number of bytes in the pieces that are numbered at most `limit`.
@@ -114,13 +133,7 @@ impl Held {
         ensures size { result ≡ length (marks_upto limit self.now) }
         ensures sound { IsHeld self.now }
     {
-        let mut size = 0;
-        for piece in &self.pieces {
-            if piece.number <= limit {
-                size += piece.bytes.len() as u64;
-            }
-        }
-        size
+        total(&self.pieces[..count_upto(&self.pieces, limit)])
     }
 
     /// Appends the bytes of the pieces that are numbered at most `limit`, in order, or nothing. Each byte is copied once.
@@ -132,6 +145,37 @@ impl Held {
         ensures ok { OnOk result (into.new ≡ into.old ++ marks_upto limit self.now) }
         ensures err { OnErr result (into.new ≡ into.old) }
     {
-        Err(NoMemory)
+        into.append(&self.pieces[..count_upto(&self.pieces, limit)])
     }
+}
+
+/// How many of these pieces, from the first on, are numbered at most `limit`.
+fn count_upto(pieces: &[Piece], limit: u64) -> usize
+    requires { Rises pieces.now }
+    ensures bound { result ≤ length pieces.now }
+    ensures parted { (take result pieces.now ≡ taken_upto limit pieces.now) × (drop result pieces.now ≡ left_over limit pieces.now) }
+{
+    pieces.partition_point(|piece| piece.number <= limit)
+}
+
+/// The number of bytes in these pieces.
+fn total(pieces: &[Piece]) -> u64
+    requires { held_size pieces.now < 2 ^ 64 }
+    ensures { result ≡ held_size pieces.now }
+{
+    let mut size = 0;
+    for piece in pieces {
+        size += piece.bytes.len() as u64;
+    }
+    size
+}
+
+/// The `count` bytes of `memory` from address `at` on.
+fn copy_of<M: Memory>(alloc: Global, memory: &M, at: u32, count: u32) -> Result<Bytes, NoMemory>
+    requires { IsTrue (mapped (M.bytes memory.now) at count) }
+    ensures { IfOk result (λ bytes. bytes ≡ bytes_from (M.bytes memory.now) at count) }
+{
+    let mut bytes = Vec::from_elem(alloc, 0, count as usize)?;
+    memory.copy_out(at, &mut bytes);
+    Ok(Bytes::from_vec(bytes))
 }

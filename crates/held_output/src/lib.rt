@@ -6,6 +6,7 @@
 
 mod chunks;
 mod held;
+mod join;
 mod piece;
 
 pub use basic_types::{Bytes, NoMemory};

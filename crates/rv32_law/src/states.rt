@@ -33,8 +33,8 @@ pub fn steps_keep_states()
     ensures answer { (input : List ℕ) (s : MachineState) → IsGuestState input s → KeepsState input s (answer_one s) }
 {}
 
-/// A run, and the track of every kind, stands in a guest state with the layout of its start, and an end that it met is
-/// the program's own.
+/// A run, and the track of every kind, stands in a guest state with the layout of its start, and no end that it met is
+/// that a budget was spent.
 pub fn runs_keep_states()
     ensures runs { (input : List ℕ) (s : MachineState) (n : ℕ) → IsGuestState input s → KeepsState input s (go (rv32 input) (fresh s) n).state }
     ensures tracks { (input : List ℕ) (kind : Kind) (s : MachineState) (own : ℕ) → IsGuestState input s →
@@ -59,5 +59,4 @@ pub fn output_is_bounded()
         given ++ held ≡ pieces (rv32 input) (fresh s) 0 n → held_size held ≤ n * 2 ^ 20 }
     ensures history { (input : List ℕ) (b : Settings) (start : MachineState) (entries : List Entry) (c : Core MachineState End Difference) →
         IsGuestState input start → IsHistory (rv32 input) b start entries c → length (c.released ++ verified b c) ≤ b.budget * 2 ^ 20 }
-    ensures in_u64 { (n : ℕ) → n ≤ 2 ^ 40 → n * 2 ^ 20 ≤ 2 ^ 60 }
 {}
