@@ -1,1 +1,2 @@
 pub mod OnHeld
+pub mod OnChunks

@@ -3,7 +3,7 @@ use Rattle.std.proofs.Common.{◌≡◌, ℕ, zero, suc, ◌+◌, ◌-◌, ◌<�
 use Rattle.std.specs.Prelude.{All, sum_by}
 use Rattle.std.specs.List.Sorted.{IsNonDecreasingBy, IsPartitionPoint}
 use Rattle.std.proofs.lemmas.Bool.{cond-true, cond-false}
-use Rattle.std.proofs.lemmas.List.{take-append-drop}
+use Rattle.std.proofs.lemmas.List.{append-nil, take_more, take-append-drop}
 use Rattle.std.proofs.lemmas.List.Elements.{All-push, All-take, All-drop, All-head, All-tail, All-cons, All-nil}
 use Rattle.std.proofs.lemmas.List.Recursion.{is_sum_by}
 use Rattle.std.proofs.lemmas.List.Sums.{sum_by_more}
@@ -34,6 +34,11 @@ held_size-sum = is_sum_by held_size (λ p. length p.bytes) refl held_size-cons
 -- one piece more
 pub held_size-more : (ps : List Piece) (i : ℕ) (d : Piece) → i < length ps → held_size (take (i + 1) ps) ≡ held_size (take i ps) + length (get_or ps i d).bytes
 held_size-more ps i d l = omega (arith, held_size-sum (take (i + 1) ps), held_size-sum (take i ps), sum_by_more (λ p. length p.bytes) ps i d l)
+
+pub marks-more : (ps : List Piece) (i : ℕ) (p : Piece) → i < length ps → p ≡ get_or ps i p → marks (take (i + 1) ps) ≡ marks (take i ps) ++ marked p.stream p.bytes
+marks-more ps i p l at =
+    ap marks (take_more ps i p l ∙ ap (λ q. take i ps ++ q ∷ []) (sym at)) ∙ marks-append (take i ps) (p ∷ [])
+    ∙ ap (λ ms. marks (take i ps) ++ ms) (append-nil (marked p.stream p.bytes))
 
 -- the size of the first n pieces and that of the others
 pub held_size-parts : (n : ℕ) (ps : List Piece) → held_size (take n ps) + held_size (drop n ps) ≡ held_size ps

@@ -56,9 +56,10 @@ fn join(
     if bytes.is_empty() {
         return Ok(());
     }
-    let len = chunks.len();
-    if len > 0 && chunks[len - 1].stream == stream {
-        return chunks[len - 1].bytes.append(bytes);
+    if let Some(last) = chunks.last_mut() {
+        if last.stream == stream {
+            return last.bytes.append(bytes);
+        }
     }
     let bytes = Bytes::from_vec(Vec::from_slice(alloc, bytes)?);
     chunks.push(Chunk { stream, bytes })?;

@@ -1,8 +1,12 @@
-use Rattle.std.proofs.Common.{◌≡◌, ◌++◌, List, take, ap, ◌∙◌, sym, subst}
+use Rattle.std.proofs.Common.{◌≡◌, ◌++◌, List, take, ap, ◌∙◌, sym, subst, ◌<◌, arith}
 use Rattle.std.specs.Result.{OnOk}
 use Rattle.speculation.specs.Run.{Mark, marks, marks_upto}
-use Rattle.held_output.proofs.OnHeld.{marks-taken_upto}
+use Rattle.speculation.specs.Core.{held_size}
+use Rattle.held_output.proofs.OnHeld.{held_size-take, marks-taken_upto}
 use Rattle.held_output.proofs.held.Held.append_bytes.Goals as goal
+
+pub append-requires-clause-fits : goal.append-requires-clause-fits
+append-requires-clause-fits c = omega (arith, ap (λ ps. held_size (take c.count_upto.result ps)) c.deref.ensures.value, held_size-take c.count_upto.result c.self.inside.pieces.items, c.self.invariant.0.fits)
 
 pub returns-clause-ok : goal.returns-clause-ok
 returns-clause-ok c =
