@@ -1,4 +1,6 @@
 pub mod Kept
-pub mod Views
+pub mod Opening
+pub mod Progress
 pub mod Runs
 pub mod Transitions
+pub mod Views

@@ -5,6 +5,7 @@
 #![tactic(auto)]
 
 mod comparison;
+mod progress;
 mod stop;
 mod track;
 
