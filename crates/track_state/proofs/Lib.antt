@@ -4,4 +4,5 @@ pub mod OnProgress
 pub mod OnRunCalls
 pub mod OnRuns
 pub mod OnStarts
+pub mod OnTracks
 pub mod OnWrites

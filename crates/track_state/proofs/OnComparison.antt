@@ -1,5 +1,5 @@
 -- The comparison of two states, part by part
-use Rattle.std.proofs.Common.{◌≡◌, ◌≢◌, ℕ, ◌+◌, ◌<◌, ◌≤◌, ◌^◌, Bool, true, false, not, cond, List, Option, Some, None, option_map, length, replicate, refl, sym, ap, ◌∙◌, subst, arith}
+use Rattle.std.proofs.Common.{◌≡◌, ◌≢◌, ℕ, ◌+◌, ◌<◌, ◌≤◌, ◌^◌, Bool, true, false, not, cond, List, Option, Some, None, option_map, length, replicate, refl, sym, ap, ◌∙◌, subst, inl, inr, arith}
 use Rattle.std.specs.Prelude.{◌==◌, ◌↔◌}
 use Rattle.std.proofs.lemmas.Bool.{cases_lt, eq-eqb, ne_eqb}
 use Rattle.std.proofs.lemmas.List.{length-replicate}
@@ -59,7 +59,7 @@ last-part (Some q) = refl
 
 module _ (a b : MachineState) where
   pub differs-in_pc : a.regs.pc ≢ b.regs.pc → Some Pc ≡ difference a b
-  differs-in_pc h = sym (difference-is a b ∙ ap (λ (pc : Option Difference). first_of pc _ _ _ _) (a-part Pc a.regs.pc b.regs.pc h))
+  differs-in_pc h = sym (difference-is a b ∙ ap (λ (pc : Option Difference). first_of pc (register_difference a.regs b.regs) (if_differs Place a.place b.place) (if_differs Break a.heap.brk b.heap.brk) (byte_difference a.memory b.memory)) (a-part Pc a.regs.pc b.regs.pc h))
 
   module _ (pc : a.regs.pc ≡ b.regs.pc) where
     behind-pc : difference a b ≡ first_of None (register_difference a.regs b.regs) (if_differs Place a.place b.place) (if_differs Break a.heap.brk b.heap.brk) (byte_difference a.memory b.memory)

@@ -78,7 +78,7 @@ module _ (input : List ℕ) where
 
   -- ---- how a part of a run begins
 
-  start-point : (kind : Kind) (s : MachineState) → point (rv32 input) kind s 0 ≡ fresh s
+  pub start-point : (kind : Kind) (s : MachineState) → point (rv32 input) kind s 0 ≡ fresh s
   unfolding go
   start-point Normal s = refl
   start-point Fast s = refl
