@@ -199,8 +199,8 @@ module _ (input : List ℕ) (kind : Kind) (s : MachineState) (own : ℕ) (held :
   pauses-ended n limit t e now h less call ends =
       let at : go (rv32 input) (fresh s) (n + 1) ≡ record { state = t; end = Some e } = rw add-one (go-ends (rv32 input) (fresh s) n t e h.at ends) in
       let holds : now ≡ held ++ kept_pieces input kind s own (n + 1)
-          = h.holds ∙ ap (λ ps. held ++ ps) (sym (ap (λ k. kept_pieces input kind s own k) (add-one n) ∙ kept-more input s own kind n t h.at
-            ∙ ap (λ o. kept_pieces input kind s own n ++ kept_of kind (suc (own + n)) o) ends ∙ ap (λ ps. kept_pieces input kind s own n ++ ps) (kept_of-end kind (suc (own + n)) e) ∙ append-nil (kept_pieces input kind s own n))) in
+      = h.holds ∙ ap (λ ps. held ++ ps) (sym (ap (λ k. kept_pieces input kind s own k) (add-one n) ∙ kept-more input s own kind n t h.at
+      ∙ ap (λ o. kept_pieces input kind s own n ++ kept_of kind (suc (own + n)) o) ends ∙ ap (λ ps. kept_pieces input kind s own n ++ ps) (kept_of-end kind (suc (own + n)) e) ∙ append-nil (kept_pieces input kind s own n))) in
       record {
         at = at;
         holds = holds;

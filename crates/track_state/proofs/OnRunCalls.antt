@@ -36,9 +36,11 @@ module _ (input : List ℕ) (t : TrackView) where
   rests-ended k runs h = (length-rests input t k 0 (omega arith) (now-at input t runs ∙ rests-end input t.kind t.budget (t.own + 0) t.state t.end t.held h) (λ i less. absurd (omega arith)), ran-none input t runs)
 
   pub rests-many : (k : ℕ) → RunsOver input t → most_held ≤ held_size t.held → (0 ≡ run_length input t k) × RanOn input t t 0
-  rests-many k runs h =
-      (length-rests input t k 0 (omega arith) (now-at input t runs ∙ rests-full input t.kind t.budget (t.own + 0) (record { state = t.state; end = t.end }) t.held (le-leb most_held (held_size t.held) h))
-      (λ i less. absurd (omega arith)), ran-none input t runs)
+  rests-many k runs h = (
+    length-rests input t k 0 (omega arith) (now-at input t runs ∙ rests-full input t.kind t.budget (t.own + 0) (record { state = t.state; end = t.end }) t.held (le-leb most_held (held_size t.held) h))
+        (λ i less. absurd (omega arith)),
+    ran-none input t runs,
+  )
 
   pub length-by : (limit n : ℕ) (s u : MachineState) (held : List Piece) (p : Progress) (k : ℕ) → (starts : Starts input t limit n s) → (ran : IsProgress input t.kind s (t.own + n) t.held (limit - n) u held p)
       → limit ≡ min k (t.budget - t.own) → t.own ≤ t.budget → p.refused ≡ false → n + p.taken ≡ run_length input t k

@@ -169,10 +169,10 @@ module _ (input : List ℕ) where
     ran-before fits i less = elim (cases_lt i n0) [
       | inl low ↦ starts.before i low
       | inr high ↦ (let j = i - n0 in
-        let whole : n0 + j ≡ i = omega arith in
-        let le : n0 + j ≤ limit = omega (arith, within) in
-        subst (λ k. rests_after input t k ≡ false) whole
-        (rests-later j le ∙ rests-not t.kind t.budget (t.own + (n0 + j)) (go (rv32 input) (fresh s) j) (t.held ++ kept_pieces input t.kind s (t.own + n0) j) (ran.going j (omega arith)) (omega (arith, within))))
+          let whole : n0 + j ≡ i = omega arith in
+          let le : n0 + j ≤ limit = omega (arith, within) in
+          subst (λ k. rests_after input t k ≡ false) whole
+          (rests-later j le ∙ rests-not t.kind t.budget (t.own + (n0 + j)) (go (rv32 input) (fresh s) j) (t.held ++ kept_pieces input t.kind s (t.own + n0) j) (ran.going j (omega arith)) (omega (arith, within))))
     ]
 
     ran-over : is_over input t.kind s (t.own + n0) t.held p.taken ≡ true → rests_after input t (n0 + p.taken) ≡ true
@@ -183,11 +183,11 @@ module _ (input : List ℕ) where
     ran-limit : (k : ℕ) → limit ≡ min k (t.budget - t.own) → t.own ≤ t.budget → n0 + p.taken ≡ limit → ((i : ℕ) → i < n0 + p.taken → rests_after input t i ≡ false) → n0 + p.taken ≡ run_length input t k
     ran-limit k is fits same before = elim (cases_lt (n0 + p.taken) k) [
       | inl less ↦ (let spent : t.own + (n0 + p.taken) ≡ t.budget = omega arith in
-        length-rests t k (n0 + p.taken) (omega arith)
-        (rests-at t (n0 + p.taken) (point (rv32 input) t.kind t.start (t.own + (n0 + p.taken))) (t.held ++ new_pieces (rv32 input) t.kind t.start t.own (n0 + p.taken)) refl refl
-        ∙ rests-spent t.kind t.budget (t.own + (n0 + p.taken)) (point (rv32 input) t.kind t.start (t.own + (n0 + p.taken))) (t.held ++ new_pieces (rv32 input) t.kind t.start t.own (n0 + p.taken)) spent) before)
+          length-rests t k (n0 + p.taken) (omega arith)
+          (rests-at t (n0 + p.taken) (point (rv32 input) t.kind t.start (t.own + (n0 + p.taken))) (t.held ++ new_pieces (rv32 input) t.kind t.start t.own (n0 + p.taken)) refl refl
+          ∙ rests-spent t.kind t.budget (t.own + (n0 + p.taken)) (point (rv32 input) t.kind t.start (t.own + (n0 + p.taken))) (t.held ++ new_pieces (rv32 input) t.kind t.start t.own (n0 + p.taken)) spent) before)
       | inr high ↦ (let whole : n0 + p.taken ≡ k = omega arith in
-        whole ∙ length-whole t k (λ i less. before i (omega arith)))
+          whole ∙ length-whole t k (λ i less. before i (omega arith)))
     ]
 
     pub ran-length : (k : ℕ) → limit ≡ min k (t.budget - t.own) → t.own ≤ t.budget → (p.taken ≡ limit - n0) ⊎ (is_over input t.kind s (t.own + n0) t.held p.taken ≡ true) → n0 + p.taken ≡ run_length input t k

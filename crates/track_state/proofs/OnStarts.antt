@@ -33,9 +33,9 @@ opening-not_closing s h =
     let both = and_parts (is_ecall (load w32 s.memory s.regs.pc)) (reg s.regs 17 == 2000) h in
     let number : reg s.regs 17 ≡ 2000 = eqb-true (reg s.regs 17) 2000 both.1 in
     second (is_ecall (load w32 s.memory s.regs.pc)) (reg s.regs 17 == 2001) (ne_eqb (reg s.regs 17) 2001 (λ e. absurd (omega arith))) where
-    second : (b c : Bool) → c ≡ false → b && c ≡ false
-    second true c h = h
-    second false c h = refl
+      second : (b c : Bool) → c ≡ false → b && c ≡ false
+      second true c h = h
+      second false c h = refl
 
 -- ---- numbers of pieces
 
@@ -138,7 +138,7 @@ module _ (input : List ℕ) where
         let nothing : t.held ++ new_pieces (rv32 input) t.kind t.start t.own 0 ≡ t.held = ap (λ ps. t.held ++ ps) (new_pieces-none input t.kind t.start t.own) ∙ append-nil t.held in
         rests-at input t 0 (fresh t.state) t.held (ap (point (rv32 input) t.kind t.start) same ∙ here) nothing
         ∙ rests-not input t.kind t.budget (t.own + 0) (fresh t.state) t.held
-            (over-not t.kind (ap at_end (at-start first) ∙ opening-not_closing t.start (call other)) fast room) (omega arith)
+        (over-not t.kind (ap at_end (at-start first) ∙ opening-not_closing t.start (call other)) fast room) (omega arith)
 
     -- where the next instruction is the opening call of a fast version
     pub starts-opened : t.kind ≡ Fast → t.own ≡ 0 → 0 < limit → t.own + limit ≤ t.budget → held_size t.held < most_held → Starts input t limit 1 (answer_one t.state)
@@ -188,8 +188,11 @@ module _ (input : List ℕ) where
             at = ran-at input t limit n0 s u held p starts ran;
             place = place;
             last = last-one;
-            held = (runs.held.0, ap (λ (ps : List Piece). runs.held.0 ++ ps) holds ∙ sym (append_assoc runs.held.0 t.held (new_pieces (rv32 input) t.kind t.start t.own n))
-                ∙ ap (λ (ps : List Piece). ps ++ new_pieces (rv32 input) t.kind t.start t.own n) runs.held.1 ∙ sym (new_pieces-more input t.kind t.start t.own n));
+            held = (
+              runs.held.0,
+              ap (λ (ps : List Piece). runs.held.0 ++ ps) holds ∙ sym (append_assoc runs.held.0 t.held (new_pieces (rv32 input) t.kind t.start t.own n))
+                  ∙ ap (λ (ps : List Piece). ps ++ new_pieces (rv32 input) t.kind t.start t.own n) runs.held.1 ∙ sym (new_pieces-more input t.kind t.start t.own n),
+            );
           };
           budget = refl;
         }

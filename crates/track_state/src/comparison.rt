@@ -28,11 +28,7 @@ pub fn same<L>(a: &TrackState, b: &TrackState, steps: &mut Steps<L>) -> Option<D
     find_difference(a, b, steps)
 }
 
-fn find_difference<L>(
-    a: &TrackState,
-    b: &TrackState,
-    steps: &mut Steps<L>,
-) -> Option<Difference>
+fn find_difference<L>(a: &TrackState, b: &TrackState, steps: &mut Steps<L>) -> Option<Difference>
     requires comparable { AreComparable a.now b.now }
     requires room { steps.old + in_either (written_of a.now.memory) (written_of b.now.memory) < 2 ^ 64 }
     ensures first { result ≡ difference (flat_state a.now) (flat_state b.now) }

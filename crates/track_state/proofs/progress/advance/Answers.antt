@@ -30,9 +30,9 @@ pub returns-in-Err-clause-progress : goal.returns-in-Err-clause-progress
 returns-in-Err-clause-progress c =
     let bytes = bytes_from (content c.step.new.state.memory) c.in-Wrote.at c.in-Wrote.count in
     let back : flat_state c.hold.new.state ≡ flat_state c.loop-taken.state
-        = ap flat_state c.in-Err.ensures.undone ∙ taken_back (flat_state c.loop-taken.state) (flat_state c.step.new.state) c.in-Wrote.stream c.pc-pc.ensures.zero (omega (arith, c.pc-pc.ensures.value))
-        (is_write c.args.input.now (flat_state c.loop-taken.state) (flat_state c.step.new.state) c.in-Wrote.stream bytes
-        (omega (arith, length-bytes_from (content c.step.new.state.memory) c.in-Wrote.at c.in-Wrote.count, c.in-Wrote.ensures.means.0)) c.in-Wrote.ensures.means.3) in
+    = ap flat_state c.in-Err.ensures.undone ∙ taken_back (flat_state c.loop-taken.state) (flat_state c.step.new.state) c.in-Wrote.stream c.pc-pc.ensures.zero (omega (arith, c.pc-pc.ensures.value))
+    (is_write c.args.input.now (flat_state c.loop-taken.state) (flat_state c.step.new.state) c.in-Wrote.stream bytes
+    (omega (arith, length-bytes_from (content c.step.new.state.memory) c.in-Wrote.at c.in-Wrote.count, c.in-Wrote.ensures.means.0)) c.in-Wrote.ensures.means.3) in
     rw (c.paused-in-Err.ensures, c.in-Err.ensures.lost) (subst (λ (s : MachineState). IsProgress c.args.input.now c.args.kind (flat_state c.args.state.now) c.args.own c.args.held.now c.args.limit s c.loop-taken.held (record { taken = c.loop-taken.taken; end = None; refused = true })) (sym back)
     (pauses-refused c.args.input.now c.args.kind (flat_state c.args.state.now) c.args.own c.args.held.now
     c.loop-taken.taken c.args.limit (flat_state c.loop-taken.state) c.loop-taken.held c.loop-taken.invariant.so_far c.loop-taken-test.true (cc)))
