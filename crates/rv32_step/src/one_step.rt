@@ -28,8 +28,8 @@ const A2: u8 = 12;
 /// The register a7: the number of the service.
 const A7: u8 = 17;
 
-/// Carries out ECALL. Services are rare, so this stays out of the loop over plain instructions.
-#[inline(never)]
+/// Carries out ECALL.
+#[inline(always)]
 #[tactic(auto, unfolding(guest_model::specs::Service::service))]
 fn call_service<M: Memory>(state: &mut State<M>, input: &[u8], fast: bool) -> Stepped
     requires { state.old.place ≤ length input.now }
