@@ -1,9 +1,9 @@
 -- Chunks, and what changes at their end
-use Rattle.std.proofs.Common.{◌≡◌, ◌≢◌, ℕ, zero, suc, ◌+◌, ◌-◌, ◌<◌, ◌≤◌, List, [], ◌∷◌, ◌++◌, length, get_or, take, drop, slice_set, Some, Result, Ok, Err, refl, sym, ap, ◌∙◌, append_assoc, subst, arith, length-append}
-use Rattle.std.specs.Prelude.{All, OnOk, OnErr}
-use Rattle.std.proofs.Math.Seq.{take-append-add, take-append_seam}
+use Rattle.std.proofs.Common.{◌≡◌, ◌≢◌, ℕ, zero, suc, ◌+◌, ◌-◌, ◌<◌, ◌≤◌, List, [], ◌∷◌, ◌++◌, length, get_or, take, slice_set, Some, Result, Ok, Err, refl, sym, ap, ◌∙◌, append_assoc, subst, arith, length-append}
+use Rattle.std.specs.Prelude.{OnOk, OnErr}
+use Rattle.std.proofs.Math.Seq.{take-append-add}
 use Rattle.std.proofs.lemmas.List.{append-nil, get_or_default, take-take, length-take-le}
-use Rattle.std.proofs.lemmas.List.Elements.{All-push, All-pop, All-take, All-head}
+use Rattle.std.proofs.lemmas.List.Elements.{All-push, All-pop, All-take}
 use Rattle.speculation.specs.Run.{Mark, marked}
 use Rattle.held_output.specs.declared.chunks.Chunk.{Chunk}
 use Rattle.held_output.specs.Held.{IsStream}
@@ -164,7 +164,7 @@ module _ (all : List Mark) (count left : ℕ) (cs : List Chunk) (h : IsShortened
     marks =
         sym (append-nil (chunk_marks (take n cs)))
         ∙ cut_back (length all - count + left) 0 (length all - count + (left - length c.bytes)) (chunk_marks (take n cs)) (marked c.stream c.bytes) all
-          (sym (chunk_marks-last cs n c l) ∙ h.marks) (omega (arith, h.within, h.fits)) (omega arith) (omega (arith, length-marked c.stream c.bytes, all_of));
+        (sym (chunk_marks-last cs n c l) ∙ h.marks) (omega (arith, h.within, h.fits)) (omega arith) (omega (arith, length-marked c.stream c.bytes, all_of));
   }
 
   -- the last chunk is cut back
@@ -173,7 +173,7 @@ module _ (all : List Mark) (count left : ℕ) (cs : List Chunk) (h : IsShortened
       chunk_marks-set cs n d l.last
       ∙ ap (λ ms. chunk_marks (take n cs) ++ ms) (ap (λ s. marked s d.bytes) stream ∙ ap (marked c.stream) bytes ∙ marked-take c.stream (length c.bytes - left) c.bytes)
       ∙ cut_back (length all - count + left) (length c.bytes - left) (length all - count) (chunk_marks (take n cs)) (marked c.stream c.bytes) all
-        (sym (chunk_marks-last cs n c l) ∙ h.marks) (omega (arith, h.within, h.fits)) (omega (arith, length-marked c.stream c.bytes)) (omega (arith, length-marked c.stream c.bytes, less))
+      (sym (chunk_marks-last cs n c l) ∙ h.marks) (omega (arith, h.within, h.fits)) (omega (arith, length-marked c.stream c.bytes)) (omega (arith, length-marked c.stream c.bytes, less))
 
   pub shortened-sound : (n : ℕ) (c d : Chunk) → IsLast cs n c → left < length c.bytes → d.stream ≡ c.stream → d.bytes ≡ take (length c.bytes - left) c.bytes → AreChunks (slice_set cs n d)
   shortened-sound n c d l less stream bytes =

@@ -16,11 +16,7 @@ use std::mem;
 ///
 /// # Errors
 /// `NoMemory` where there is no room for all of them.
-pub fn join_all(
-    chunks: &mut Vec<Chunk>,
-    alloc: Global,
-    pieces: &[Piece],
-) -> Result<u64, NoMemory>
+pub fn join_all(chunks: &mut Vec<Chunk>, alloc: Global, pieces: &[Piece]) -> Result<u64, NoMemory>
     requires sound { AreChunks chunks.old.items }
     requires streams { All (λ p. IsStream p.stream) pieces.now }
     requires fits { held_size pieces.now < 2 ^ 64 }
@@ -41,12 +37,7 @@ pub fn join_all(
 }
 
 /// Appends these bytes: to the last chunk where that is of the stream, and else as a chunk of their own.
-fn join(
-    chunks: &mut Vec<Chunk>,
-    alloc: Global,
-    stream: u8,
-    bytes: &[u8],
-) -> Result<(), NoMemory>
+fn join(chunks: &mut Vec<Chunk>, alloc: Global, stream: u8, bytes: &[u8]) -> Result<(), NoMemory>
     requires sound { AreChunks chunks.old.items }
     requires stream { IsStream stream }
     ensures ok { OnOk result (chunk_marks chunks.new.items ≡ chunk_marks chunks.old.items ++ marked stream bytes.now) }

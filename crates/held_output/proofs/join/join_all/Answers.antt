@@ -1,6 +1,5 @@
-use Rattle.std.proofs.Common.{◌≡◌, ℕ, ◌+◌, ◌≤◌, List, ◌++◌, length, take, get_or, ap, ◌∙◌, sym, append_assoc, arith}
+use Rattle.std.proofs.Common.{ℕ, ◌+◌, List, ◌++◌, length, take, ap, ◌∙◌, sym, append_assoc, arith}
 use Rattle.speculation.specs.Run.{Mark, Piece, marked, marks}
-use Rattle.speculation.specs.Core.{held_size}
 use Rattle.held_output.specs.Chunks.{chunk_marks}
 use Rattle.held_output.proofs.OnHeld.{held_size-more, held_size-take, marks-more}
 use Rattle.held_output.proofs.join.join_all.Goals as goal
@@ -21,6 +20,6 @@ loop-piece-preserved c =
           c.in_default.ensures.ok ∙ ap (λ (ms : List Mark). ms ++ marked c.piece.inside.stream c.as_slice.result.now) c.loop-piece.invariant.so_far
           ∙ append_assoc (chunk_marks c.args.chunks.now.items) (marks (take c.loop-piece.piece-index c.args.pieces.now)) (marked c.piece.inside.stream c.as_slice.result.now)
           ∙ ap (λ (ms : List Mark). chunk_marks c.args.chunks.now.items ++ ms)
-            (ap (λ (bs : List ℕ). marks (take c.loop-piece.piece-index c.args.pieces.now) ++ marked c.piece.inside.stream bs) c.as_slice.ensures
-            ∙ ap (λ (p : Piece). marks (take c.loop-piece.piece-index c.args.pieces.now) ++ marked p.stream p.bytes) c.piece.view_is ∙ sym next);
+          (ap (λ (bs : List ℕ). marks (take c.loop-piece.piece-index c.args.pieces.now) ++ marked c.piece.inside.stream bs) c.as_slice.ensures
+          ∙ ap (λ (p : Piece). marks (take c.loop-piece.piece-index c.args.pieces.now) ++ marked p.stream p.bytes) c.piece.view_is ∙ sym next);
     }
