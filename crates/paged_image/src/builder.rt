@@ -3,7 +3,6 @@
 ghost use Rattle.std.specs.Prelude.{◌≡◌, ℕ, ◌+◌, ◌*◌, ◌/◌, ◌<◌, ◌≤◌, [], Some, length, slice_get, IfOk, OnOk};
 ghost use Rattle.guest_model.specs.ByteMap.{write};
 ghost use Rattle.guest_model.specs.AreaMap.{IsPageAligned, IsWithinSpace};
-ghost use Rattle.paged_image.specs.Entries.{NoneOwn};
 ghost use Rattle.paged_image.specs.Pages.{Finds, paged, bytes_at};
 
 use crate::entry::Entry;
@@ -12,7 +11,6 @@ use crate::page::{PAGE_BYTES, Page};
 use basic_types::NoMemory;
 use guest_model::Area;
 use std::alloc::Global;
-use std::sync::Arc;
 
 /// An index and entries, to which pages are added from the lowest on.
 #[derive(Drop)]
@@ -22,7 +20,6 @@ pub struct Builder {
     pub entries: Vec<Entry>,
     pub ghost table: { length index.items ≡ 1048576 },
     pub ghost finds: { Finds index.items entries.items },
-    pub ghost shared: { NoneOwn entries.items },
     pub ghost places: { (p place : ℕ) → slice_get index.items p ≡ Some place → length entries.items ≤ place → place ≡ 4294967295 },
 }
 
@@ -41,7 +38,7 @@ impl Builder {
         })
     }
 
-    /// Adds a page, which no image owns.
+    /// Adds a page, which is own until the image is made.
     fn push_page(&mut self, number: u32, bytes: &[u8]) -> Result<(), NoMemory>
         requires few { length self.old.entries.items ≤ number }
         requires below { number < 1048576 }
@@ -50,11 +47,10 @@ impl Builder {
         ensures few { OnOk result (length self.new.entries.items ≤ number + 1) }
     {
         let page = Box::new(self.alloc, Page::from_slice(bytes))?;
-        let shared = Arc::new(self.alloc, page)?;
         let place = self.entries.len() as u32;
         self.entries.push(Entry {
             number,
-            page: Owner::Shared(shared),
+            page: Owner::Own(page),
         })?;
         self.index[number as usize] = place;
         Ok(())

@@ -16,6 +16,8 @@ mod stores;
 #[cfg(test)]
 mod tests;
 
+use snapshot::share_all;
+
 /// A memory of pages of 4,096 bytes, some of which it owns and the others of which it shares with its snapshots.
 ///
 /// A page is copied at the first write into it after a snapshot. Contracts see the bytes (`content`), the numbers of
@@ -56,6 +58,9 @@ impl PagedImage {
             index,
             entries,
         } = builder;
+        let mut entries = entries;
+        // All at once, so that the counts of owners, which each snapshot changes, lie close together.
+        let _others = share_all(alloc, &mut entries)?;
         Ok(PagedImage {
             alloc,
             index: Arc::new(alloc, index)?,

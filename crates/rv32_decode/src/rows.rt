@@ -7,7 +7,7 @@ use crate::fields::{funct3, funct7, imm_b, imm_i, imm_j, imm_s, imm_u, opcode, r
 use crate::operations::{cond_of, imm_op_of, load_width_of, reg_op_of, shift_of, store_width_of};
 use guest_model::{Instr, UpperOp};
 
-#[inline]
+#[inline(always)]
 fn jalr_row(word: u32) -> Option<Instr>
     ensures row { result ≡ jalr_row word }
     ensures fit { IfSome result FieldsFit }
@@ -22,7 +22,7 @@ fn jalr_row(word: u32) -> Option<Instr>
     })
 }
 
-#[inline]
+#[inline(always)]
 fn branch_row(word: u32) -> Option<Instr>
     ensures row { result ≡ branch_row word }
     ensures fit { IfSome result FieldsFit }
@@ -36,7 +36,7 @@ fn branch_row(word: u32) -> Option<Instr>
     })
 }
 
-#[inline]
+#[inline(always)]
 fn load_row(word: u32) -> Option<Instr>
     ensures row { result ≡ load_row word }
     ensures fit { IfSome result FieldsFit }
@@ -50,7 +50,7 @@ fn load_row(word: u32) -> Option<Instr>
     })
 }
 
-#[inline]
+#[inline(always)]
 fn store_row(word: u32) -> Option<Instr>
     ensures row { result ≡ store_row word }
     ensures fit { IfSome result FieldsFit }
@@ -64,7 +64,7 @@ fn store_row(word: u32) -> Option<Instr>
     })
 }
 
-#[inline]
+#[inline(always)]
 fn shift_row(word: u32) -> Option<Instr>
     ensures row { result ≡ shift_row word }
     ensures fit { IfSome result FieldsFit }
@@ -78,7 +78,7 @@ fn shift_row(word: u32) -> Option<Instr>
     })
 }
 
-#[inline]
+#[inline(always)]
 fn imm_row(word: u32) -> Option<Instr>
     ensures row { result ≡ imm_row word }
     ensures fit { IfSome result FieldsFit }
@@ -96,7 +96,7 @@ fn imm_row(word: u32) -> Option<Instr>
     })
 }
 
-#[inline]
+#[inline(always)]
 fn op_row(word: u32) -> Option<Instr>
     ensures row { result ≡ op_row word }
     ensures fit { IfSome result FieldsFit }
@@ -110,7 +110,7 @@ fn op_row(word: u32) -> Option<Instr>
     })
 }
 
-#[inline]
+#[inline(always)]
 fn fence_row(word: u32) -> Option<Instr>
     ensures row { result ≡ fence_row word }
     ensures fit { IfSome result FieldsFit }
@@ -122,7 +122,7 @@ fn fence_row(word: u32) -> Option<Instr>
     }
 }
 
-#[inline]
+#[inline(always)]
 fn system_row(word: u32) -> Option<Instr>
     ensures row { result ≡ system_row word }
     ensures fit { IfSome result FieldsFit }
@@ -136,7 +136,7 @@ fn system_row(word: u32) -> Option<Instr>
 
 /// The instruction of this word; None exactly where it has no row in the instruction table of RV32I and M. FENCE has
 /// any fields but funct3 0; FENCE.I, every SYSTEM word but ECALL and EBREAK, and reserved encodings have no row.
-#[inline]
+#[inline(always)]
 pub fn decode(word: u32) -> Option<Instr>
     ensures row { result ≡ instr word }
     ensures fit { IfSome result FieldsFit }

@@ -64,7 +64,7 @@ fn branch(is_taken: bool, offset: i32, regs: &mut Regs) -> Result<(), Trap>
     jump(0, target, regs)
 }
 
-#[inline]
+#[inline(always)]
 fn load_value<M: Memory>(width: LoadWidth, at: u32, memory: &M) -> Option<u32>
     ensures { result ≡ load_value width (M.bytes memory.now) at }
 {
@@ -81,7 +81,7 @@ fn load_value<M: Memory>(width: LoadWidth, at: u32, memory: &M) -> Option<u32>
     }
 }
 
-#[inline]
+#[inline(always)]
 fn load<M: Memory>(
     width: LoadWidth,
     rd: u8,
@@ -100,7 +100,7 @@ fn load<M: Memory>(
 }
 
 /// Carries out an instruction that changes registers alone: every one but stores and ECALL.
-#[inline]
+#[inline(always)]
 pub fn change_registers<M: Memory>(instr: Instr, regs: &mut Regs, memory: &M) -> Result<(), Trap>
     requires fit { FieldsFit instr }
     requires registers { ChangesRegisters instr }
@@ -149,7 +149,7 @@ pub fn change_registers<M: Memory>(instr: Instr, regs: &mut Regs, memory: &M) ->
 }
 
 /// Stores the low bytes of a word.
-#[inline]
+#[inline(always)]
 pub fn store_bytes<M: Memory>(
     width: StoreWidth,
     at: u32,

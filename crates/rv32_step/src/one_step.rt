@@ -29,6 +29,7 @@ const A2: u8 = 12;
 const A7: u8 = 17;
 
 /// Carries out ECALL.
+#[inline(always)]
 #[tactic(auto, unfolding(guest_model::specs::Service::service))]
 fn call_service<M: Memory>(state: &mut State<M>, input: &[u8], fast: bool) -> Stepped
     requires { state.old.place ≤ length input.now }
@@ -73,7 +74,7 @@ fn call_service<M: Memory>(state: &mut State<M>, input: &[u8], fast: bool) -> St
     }
 }
 
-#[inline]
+#[inline(always)]
 fn store<M: Memory>(width: StoreWidth, at: u32, value: u32, state: &mut State<M>) -> Stepped
     ensures means { let old = flat M.bytes state.old in
         let want = after_effect state.old.regs.pc (store_effect width at value old) in
@@ -92,7 +93,7 @@ fn store<M: Memory>(width: StoreWidth, at: u32, value: u32, state: &mut State<M>
     }
 }
 
-#[inline]
+#[inline(always)]
 fn on_registers<M: Memory>(instr: Instr, state: &mut State<M>) -> Stepped
     requires fit { FieldsFit instr }
     requires registers { ChangesRegisters instr }
@@ -107,7 +108,7 @@ fn on_registers<M: Memory>(instr: Instr, state: &mut State<M>) -> Stepped
     }
 }
 
-#[inline]
+#[inline(always)]
 fn execute<M: Memory>(instr: Instr, state: &mut State<M>, input: &[u8], fast: bool) -> Stepped
     requires fit { FieldsFit instr }
     requires place { state.old.place ≤ length input.now }
@@ -138,7 +139,7 @@ fn execute<M: Memory>(instr: Instr, state: &mut State<M>, input: &[u8], fast: bo
 ///
 /// `input` is the whole input of the guest, of which `state.place` bytes were read. `Ends` never has the end Spent.
 /// NoMemory comes only where the memory may refuse a store. After both the state is as before.
-#[inline]
+#[inline(always)]
 #[tactic(auto, unfolding(guest_model::specs::Step::step))]
 pub fn step<M: Memory>(state: &mut State<M>, input: &[u8], fast: bool) -> Stepped
     requires { state.old.place ≤ length input.now }

@@ -40,7 +40,7 @@ impl PagedImage {
 }
 
 /// Shares all pages, and gives entries for a second image.
-fn share_all(alloc: Global, entries: &mut Vec<Entry>) -> Result<Vec<Entry>, NoMemory>
+pub(super) fn share_all(alloc: Global, entries: &mut Vec<Entry>) -> Result<Vec<Entry>, NoMemory>
     ensures faces { map face entries.new.items ≡ map face entries.old.items }
     ensures grows { Grows (λ _. false) entries.old.items entries.new.items }
     ensures shared { OnOk result (NoneOwn entries.new.items) }
