@@ -1,9 +1,9 @@
 -- Chunks, and what changes at their end
-use Rattle.std.proofs.Common.{◌≡◌, ◌≢◌, ℕ, zero, suc, ◌+◌, ◌-◌, ◌<◌, ◌≤◌, List, [], ◌∷◌, ◌++◌, length, get_or, take, drop, slice_set, Some, Result, Ok, Err, refl, sym, ap, ◌∙◌, append_assoc, subst, arith, length-append}
-use Rattle.std.specs.Prelude.{All, OnOk, OnErr}
-use Rattle.std.proofs.Math.Seq.{take-append-add, take-append_seam}
+use Rattle.std.proofs.Common.{◌≡◌, ◌≢◌, ℕ, zero, suc, ◌+◌, ◌-◌, ◌<◌, ◌≤◌, List, [], ◌∷◌, ◌++◌, length, get_or, take, slice_set, Some, Result, Ok, Err, refl, sym, ap, ◌∙◌, append_assoc, subst, arith, length-append}
+use Rattle.std.specs.Prelude.{OnOk, OnErr}
+use Rattle.std.proofs.Math.Seq.{take-append-add}
 use Rattle.std.proofs.lemmas.List.{append-nil, get_or_default, take-take, length-take-le}
-use Rattle.std.proofs.lemmas.List.Elements.{All-push, All-pop, All-take, All-head}
+use Rattle.std.proofs.lemmas.List.Elements.{All-push, All-pop, All-take}
 use Rattle.speculation.specs.Run.{Mark, marked}
 use Rattle.held_output.specs.declared.chunks.Chunk.{Chunk}
 use Rattle.held_output.specs.Held.{IsStream}

@@ -4,10 +4,10 @@ use Rattle.std.specs.Prelude.{All, sum_by}
 use Rattle.std.specs.List.Sorted.{IsNonDecreasingBy, IsPartitionPoint}
 use Rattle.std.proofs.lemmas.Bool.{cond-true, cond-false}
 use Rattle.std.proofs.lemmas.List.{append-nil, take_more, take-append-drop}
-use Rattle.std.proofs.lemmas.List.Elements.{All-push, All-take, All-drop, All-head, All-tail, All-cons, All-nil}
+use Rattle.std.proofs.lemmas.List.Elements.{All-push, All-take, All-drop, All-head, All-tail, All-nil}
 use Rattle.std.proofs.lemmas.List.Recursion.{is_sum_by}
 use Rattle.std.proofs.lemmas.List.Sums.{sum_by_more}
-use Rattle.speculation.specs.Run.{Piece, Mark, marked, marks, marks_upto}
+use Rattle.speculation.specs.Run.{Piece, marked, marks, marks_upto}
 use Rattle.speculation.specs.Core.{held_size}
 use Rattle.speculation.specs.Events.{left_over}
 use Rattle.held_output.specs.Held.{Rises, IsHeld, IsStream, taken_upto}

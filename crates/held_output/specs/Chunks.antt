@@ -1,5 +1,5 @@
 -- Marked bytes as chunks of one stream each
-use Rattle.std.specs.Prelude.{◌≡◌, ◌≢◌, ℕ, List, [], ◌∷◌, ◌++◌, All}
+use Rattle.std.specs.Prelude.{◌≢◌, List, [], ◌∷◌, ◌++◌, All}
 use Rattle.speculation.specs.Run.{Mark, marked}
 use Rattle.held_output.specs.declared.chunks.Chunk.{Chunk}
 use Rattle.held_output.specs.Held.{IsStream}

@@ -1,5 +1,4 @@
-use Rattle.std.proofs.Common.{◌≡◌, ◌+◌, ◌≤◌, length, take, get_or, ap, ◌∙◌, arith}
-use Rattle.speculation.specs.Core.{held_size}
+use Rattle.std.proofs.Common.{◌+◌, length, ap, ◌∙◌, arith}
 use Rattle.held_output.proofs.OnHeld.{held_size-more, held_size-take}
 use Rattle.held_output.proofs.held.total.Goals as goal
 

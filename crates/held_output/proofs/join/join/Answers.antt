@@ -1,7 +1,7 @@
-use Rattle.std.proofs.Common.{◌≡◌, ◌≢◌, ℕ, ◌+◌, ◌-◌, ◌<◌, suc, List, [], ◌∷◌, ◌++◌, length, ap, ◌∙◌, sym, subst, refl, ◌==◌, false, arith}
+use Rattle.std.proofs.Common.{◌≡◌, ◌≢◌, ℕ, ◌-◌, List, [], ◌∷◌, ◌++◌, length, ap, ◌∙◌, sym, subst, refl, ◌==◌, false, arith}
 use Rattle.std.proofs.lemmas.Result.{on_ok_weaker}
 use Rattle.std.proofs.lemmas.Bool.{false≢true}
-use Rattle.speculation.specs.Run.{Mark, marked}
+use Rattle.speculation.specs.Run.{marked}
 use Rattle.held_output.specs.declared.chunks.Chunk.{Chunk}
 use Rattle.held_output.specs.Chunks.{AreChunks, chunk_marks}
 use Rattle.held_output.proofs.OnChunks.{IsLast, set_same, one_last, chunk_marks-more, chunk_marks-push, some_more, filled-last, AreChunks-set, AreChunks-push}

@@ -1,6 +1,5 @@
-use Rattle.std.proofs.Common.{◌≡◌, ℕ, ◌+◌, ◌≤◌, List, ◌++◌, length, take, get_or, ap, ◌∙◌, sym, append_assoc, arith}
+use Rattle.std.proofs.Common.{ℕ, ◌+◌, List, ◌++◌, length, take, ap, ◌∙◌, sym, append_assoc, arith}
 use Rattle.speculation.specs.Run.{Mark, Piece, marked, marks}
-use Rattle.speculation.specs.Core.{held_size}
 use Rattle.held_output.specs.Chunks.{chunk_marks}
 use Rattle.held_output.proofs.OnHeld.{held_size-more, held_size-take, marks-more}
 use Rattle.held_output.proofs.join.join_all.Goals as goal

@@ -1,8 +1,7 @@
-use Rattle.std.proofs.Common.{◌≡◌, ◌<◌, ◌≤◌, ◌+◌, ◌-◌, suc, length, take, get_or, ap, ◌∙◌, sym, refl, subst, arith}
+use Rattle.std.proofs.Common.{◌≡◌, ◌-◌, suc, length, take, ap, ◌∙◌, sym, refl, subst, arith}
 use Rattle.std.proofs.lemmas.List.{length-take-le}
-use Rattle.held_output.specs.declared.chunks.Chunk.{Chunk}
 use Rattle.held_output.specs.Chunks.{chunk_marks}
-use Rattle.held_output.proofs.OnChunks.{IsLast, IsShortened, one_last, shortened-some, shortened-drop, shortened-cut, shortened-sound, shortened-done}
+use Rattle.held_output.proofs.OnChunks.{IsLast, IsShortened, one_last, shortened-some, shortened-drop, shortened-cut, shortened-sound}
 use Rattle.held_output.proofs.join.shorten.Goals as goal
 
 pub index_mut-requires : goal.index_mut-requires

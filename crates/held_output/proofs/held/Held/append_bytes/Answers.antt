@@ -1,4 +1,4 @@
-use Rattle.std.proofs.Common.{◌≡◌, ◌++◌, List, take, ap, ◌∙◌, sym, subst, ◌<◌, arith}
+use Rattle.std.proofs.Common.{◌≡◌, ◌++◌, List, take, ap, ◌∙◌, sym, subst, arith}
 use Rattle.std.specs.Result.{OnOk}
 use Rattle.speculation.specs.Run.{Mark, marks, marks_upto}
 use Rattle.speculation.specs.Core.{held_size}

@@ -1,5 +1,4 @@
-use Rattle.std.proofs.Common.{◌≡◌, ◌-◌, ◌<◌, ◌≤◌, List, take, drop, ap, ◌∙◌, sym, subst, arith}
-use Rattle.speculation.specs.Run.{Piece}
+use Rattle.std.proofs.Common.{ap, ◌∙◌, sym, subst, arith}
 use Rattle.speculation.specs.Core.{held_size}
 use Rattle.held_output.specs.Held.{IsHeld}
 use Rattle.held_output.proofs.OnHeld.{held_size-take, IsHeld-take, Counted-drop}

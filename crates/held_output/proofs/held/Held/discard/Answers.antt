@@ -1,4 +1,4 @@
-use Rattle.std.proofs.Common.{◌≡◌, ◌-◌, ◌<◌, ◌≤◌, take, drop, ap, ◌∙◌, arith}
+use Rattle.std.proofs.Common.{take, ap, ◌∙◌, arith}
 use Rattle.speculation.specs.Core.{held_size}
 use Rattle.held_output.proofs.OnHeld.{held_size-take, Counted-drop}
 use Rattle.held_output.proofs.held.Held.discard.Goals as goal

@@ -1,4 +1,4 @@
-use Rattle.std.proofs.Common.{◌≡◌, ◌+◌, ◌<◌, List, length, ap, ◌∙◌, sym, subst, arith}
+use Rattle.std.proofs.Common.{◌<◌, List, length, ap, ◌∙◌, sym, subst, arith}
 use Rattle.std.specs.Prelude.{All}
 use Rattle.guest_model.proofs.OnByteMap.{length-bytes_from}
 use Rattle.speculation.specs.Run.{Piece}

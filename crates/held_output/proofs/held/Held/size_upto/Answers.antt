@@ -1,4 +1,4 @@
-use Rattle.std.proofs.Common.{◌≡◌, ◌<◌, length, take, ap, ◌∙◌, sym, arith}
+use Rattle.std.proofs.Common.{length, take, ap, ◌∙◌, sym, arith}
 use Rattle.speculation.specs.Run.{marks_upto}
 use Rattle.speculation.specs.Core.{held_size}
 use Rattle.held_output.proofs.OnHeld.{held_size-take, marks-taken_upto}
