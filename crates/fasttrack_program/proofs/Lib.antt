@@ -1,4 +1,6 @@
 pub mod OnLines
 pub mod OnPlans
 pub mod OnReading
+pub mod OnReports
 pub mod OnStreams
+pub mod OnTexts

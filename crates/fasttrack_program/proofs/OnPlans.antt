@@ -10,12 +10,13 @@ use Rattle.basic_types.specs.declared.bytes.Bytes.{Bytes}
 use Rattle.guest_model.specs.Image.{Image, program_alone}
 use Rattle.fasttrack_program.specs.GuestStreams.{Sinks}
 use Rattle.program_words.specs.CommandLine.{Request}
+use Rattle.program_words.specs.declared.request.Task.TheVariants.{Alone, Trial}
 use Rattle.fasttrack_program.specs.Plan.{Plan, Refused, Runs, LongInput, image_in, input_limit, with_image, with_input, plan}
 use Rattle.fasttrack_program.specs.Reading.{IsTold, ReadsImage, ReadsInput}
 use Rattle.fasttrack_program.specs.AnswerLine.{HasNumbers, IsSaidFor, Concludes}
-use Rattle.fasttrack_program.specs.TopCall.{StaysWithin, Serves, IsServed, IsAnswered}
+use Rattle.fasttrack_program.specs.TopCall.{task_output, StaysWithin, Serves, IsServed, IsAnswered}
 use Rattle.fasttrack_program.specs.declared.answer.Answer.{Answer}
-use Rattle.fasttrack_program.specs.declared.answer.Answer.TheVariants.{Exited, Trapped, Spent, Usage, ReadFault, ImageTooLong, BadImage, InputTooLong, WriteFault, NoMemory}
+use Rattle.fasttrack_program.specs.declared.answer.Answer.TheVariants.{Exited, Trapped, Spent, Shown, Usage, ReadFault, ImageTooLong, BadImage, InputTooLong, WriteFault, NoMemory}
 use Rattle.fasttrack_program.proofs.OnStreams.{Gets-nothing, IsCalm-refl}
 
 -- some bytes that are told
@@ -31,9 +32,9 @@ told_are (Some bs) = refl
 -- nothing was written
 pub StaysWithin-refl : (p : Plan) (s : Sinks) → StaysWithin p s s
 StaysWithin-refl (Refused r) s = refl
-StaysWithin-refl (Runs i input budget) s = record {
+StaysWithin-refl (Runs task i input budget) s = record {
   got = [];
-  rest = output_of (program_alone i input budget);
+  rest = task_output task i input budget;
   parts = refl;
   gets = Gets-nothing s;
   calm = IsCalm-refl s;
@@ -89,6 +90,7 @@ served-image r told_file told_input s (BadImage f) h = record {
 served-image r told_file told_input s (Exited c) h = absurd h
 served-image r told_file told_input s (Trapped t pc) h = absurd h
 served-image r told_file told_input s Spent h = absurd h
+served-image r told_file told_input s Shown h = absurd h
 served-image r told_file told_input s Usage h = absurd h
 served-image r told_file told_input s InputTooLong h = absurd h
 served-image r told_file told_input s WriteFault h = absurd h
@@ -110,16 +112,17 @@ served-input r told_file told_input s l InputTooLong n h k = record {
 served-input r told_file told_input s l (Exited c) n h k = absurd k
 served-input r told_file told_input s l (Trapped t pc) n h k = absurd k
 served-input r told_file told_input s l Spent n h k = absurd k
+served-input r told_file told_input s l Shown n h k = absurd k
 served-input r told_file told_input s l Usage n h k = absurd k
 served-input r told_file told_input s l ImageTooLong n h k = absurd k
 served-input r told_file told_input s l (BadImage f) n h k = absurd k
 served-input r told_file told_input s l WriteFault n h k = absurd k
 
-plan_runs : (r : Request) (file input got : List ℕ) (i : Image) → image_in file ≡ Ok i → with_input i r input ≡ Runs i got r.budget → plan (Some r) file input ≡ Runs i got r.budget
+plan_runs : (r : Request) (file input got : List ℕ) (i : Image) → image_in file ≡ Ok i → with_input i r input ≡ Runs r.task i got r.budget → plan (Some r) file input ≡ Runs r.task i got r.budget
 plan_runs r file input got i h e = ap (with_image r input) h ∙ e
 
 -- the guest ran without input
-pub served-no_input : (r : Request) (told_file told_input : Option (List ℕ)) (old new : Sinks) (l : Loaded) (a : Answer) → r.no_input ≡ true → ReadsImage told_file (Ok l) → Serves (Runs (image_of_loaded l) [] r.budget) old new a → IsServed (Some r) told_file told_input old new a
+pub served-no_input : (r : Request) (told_file told_input : Option (List ℕ)) (old new : Sinks) (l : Loaded) (a : Answer) → r.no_input ≡ true → ReadsImage told_file (Ok l) → Serves (Runs r.task (image_of_loaded l) [] r.budget) old new a → IsServed (Some r) told_file told_input old new a
 served-no_input r told_file told_input old new l a n h v = record {
   file = h.0;
   input = told_bytes told_input;
@@ -129,7 +132,7 @@ served-no_input r told_file told_input old new l a n h v = record {
 }
 
 -- the guest ran with the input that was read
-pub served-runs : (r : Request) (told_file told_input : Option (List ℕ)) (old new : Sinks) (l : Loaded) (bs : Bytes) (a : Answer) → r.no_input ≡ false → ReadsImage told_file (Ok l) → ReadsInput told_input (Ok bs) → Serves (Runs (image_of_loaded l) bs r.budget) old new a → IsServed (Some r) told_file told_input old new a
+pub served-runs : (r : Request) (told_file told_input : Option (List ℕ)) (old new : Sinks) (l : Loaded) (bs : Bytes) (a : Answer) → r.no_input ≡ false → ReadsImage told_file (Ok l) → ReadsInput told_input (Ok bs) → Serves (Runs r.task (image_of_loaded l) bs r.budget) old new a → IsServed (Some r) told_file told_input old new a
 served-runs r told_file told_input old new l bs a n h k v =
     let short : nat_lt input_limit (length bs) ≡ false = grind (arith, nat_tests) in
     record {
@@ -144,17 +147,19 @@ served-runs r told_file told_input old new l bs a n h k v =
 
 -- what is said of a guest's end, or of a faulty image, holds of want of memory too
 no_memory_for : (p : Plan) (old new : Sinks) (a : Answer) → HasNumbers a → Serves p old new a → Serves p old new NoMemory
-no_memory_for (Runs i input budget) old new (Trapped trap pc) n h = record {
+no_memory_for (Runs Alone i input budget) old new (Trapped trap pc) n h = record {
   got = output_of (program_alone i input budget);
   rest = [];
   parts = append-nil (output_of (program_alone i input budget));
   gets = h.0.gets;
   calm = h.0.calm;
 }
+no_memory_for (Runs Trial i input budget) old new (Trapped trap pc) n h = absurd h
 no_memory_for (Refused r) old new (Trapped trap pc) n h = absurd h
 no_memory_for p old new (BadImage f) n h = subst (λ z. StaysWithin p old z) (sym h.1) (StaysWithin-refl p old)
 no_memory_for p old new (Exited c) n h = absurd n
 no_memory_for p old new Spent n h = absurd n
+no_memory_for p old new Shown n h = absurd n
 no_memory_for p old new Usage n h = absurd n
 no_memory_for p old new ReadFault n h = absurd n
 no_memory_for p old new ImageTooLong n h = absurd n

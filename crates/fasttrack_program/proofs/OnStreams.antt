@@ -59,16 +59,16 @@ stream_bytes-other_2 : (bs : List ℕ) → stream_bytes 2 (marked 1 bs) ≡ []
 stream_bytes-other_2 [] = refl
 stream_bytes-other_2 (b ∷ bs) = stream_bytes-other_2 bs
 
-marked-append : (stream : ℕ) (xs ys : List ℕ) → marked stream (xs ++ ys) ≡ marked stream xs ++ marked stream ys
+pub marked-append : (stream : ℕ) (xs ys : List ℕ) → marked stream (xs ++ ys) ≡ marked stream xs ++ marked stream ys
 marked-append stream [] ys = refl
 marked-append stream (x ∷ xs) ys = ap (λ ms. (record { stream = stream; byte = x }) ∷ ms) (marked-append stream xs ys)
 
-IsNext-marked : (stream : ℕ) (bs : List ℕ) → 0 < length bs → IsNext stream (marked stream bs)
+pub IsNext-marked : (stream : ℕ) (bs : List ℕ) → 0 < length bs → IsNext stream (marked stream bs)
 IsNext-marked stream [] h = absurd (omega arith)
 IsNext-marked stream (b ∷ bs) h = refl
 
 -- the sinks when the first got these bytes, or the second did
-Gets-on_out : (s : Sinks) (told : Option (List ℕ)) (faults : ℕ) (bs : List ℕ) → Appends s.out told bs → Gets s (record s { out = told; out_faults = faults }) (marked 1 bs)
+pub Gets-on_out : (s : Sinks) (told : Option (List ℕ)) (faults : ℕ) (bs : List ℕ) → Appends s.out told bs → Gets s (record s { out = told; out_faults = faults }) (marked 1 bs)
 Gets-on_out s told faults bs h = record {
   stream_1 = subst (Appends s.out told) (sym (stream_bytes-own_1 bs)) h;
   stream_2 = subst (Appends s.notes s.notes) (sym (stream_bytes-other_2 bs)) (Appends-nil s.notes);
@@ -83,7 +83,7 @@ Gets-on_notes s told faults bs h = record {
 parts_of : (stream n : ℕ) (bs : List ℕ) → marked stream (take n bs) ++ marked stream (drop n bs) ≡ marked stream bs
 parts_of stream n bs = sym (marked-append stream (take n bs) (drop n bs)) ∙ ap (marked stream) (take-append-drop n bs)
 
-left_over : (n : ℕ) (bs : List ℕ) → n < length bs → 0 < length (drop n bs)
+pub left_over : (n : ℕ) (bs : List ℕ) → n < length bs → 0 < length (drop n bs)
 left_over n bs h = simp length-drop (omega arith)
 
 WritesPiece-on_1 : {T E : Type 0} (s : Sinks) (told : Option (List ℕ)) (faults : ℕ) (bs : List ℕ) (r : Result T E) → WritesWhole s.out told r bs → CountsFaults s.out_faults faults r → WritesPiece s (record s { out = told; out_faults = faults }) (marked 1 bs) r

@@ -5,17 +5,18 @@ use Rattle.host_io.specs.Faults.{Rose}
 use Rattle.report_text.specs.Texts.{address_text, trap_text}
 use Rattle.fasttrack_program.specs.FaultTexts.{fault_text}
 use Rattle.fasttrack_program.specs.declared.answer.Answer.{Answer}
-use Rattle.fasttrack_program.specs.declared.answer.Answer.TheVariants.{Exited, Trapped, Spent, Usage, ReadFault, ImageTooLong, BadImage, InputTooLong, WriteFault, NoMemory}
+use Rattle.fasttrack_program.specs.declared.answer.Answer.TheVariants.{Exited, Trapped, Spent, Shown, Usage, ReadFault, ImageTooLong, BadImage, InputTooLong, WriteFault, NoMemory}
 
 -- a line ends with a line feed
 abbrev pub as_line : List ℕ → List ℕ
 as_line text = codes "fasttrack: " ++ (text ++ 10 ∷ [])
 
--- an exit has no line
+-- an exit and a report have no line
 abbrev pub line_of : Answer → Option (List ℕ)
 line_of (Exited code) = None
 line_of (Trapped trap pc) = Some (as_line (codes "trap " ++ (trap_text trap ++ (codes " at " ++ address_text pc))))
 line_of Spent = Some (as_line (codes "budget spent"))
+line_of Shown = None
 line_of Usage = Some (as_line (codes "bad words"))
 line_of ReadFault = Some (as_line (codes "read failed"))
 line_of ImageTooLong = Some (as_line (codes "image too long"))

@@ -3,5 +3,7 @@ pub mod FaultTexts
 pub mod GuestStreams
 pub mod Plan
 pub mod Reading
+pub mod Reports
 pub mod Status
+pub mod TextOnSink
 pub mod TopCall

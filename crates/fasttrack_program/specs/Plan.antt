@@ -3,6 +3,7 @@ use Rattle.std.specs.Prelude.{ℕ, nat_lt, if◌then◌else◌, List, [], length
 use Rattle.guest_model.specs.Image.{Image, image}
 use Rattle.guest_model.specs.ImageFault.{Fault}
 use Rattle.program_words.specs.CommandLine.{Request}
+use Rattle.program_words.specs.declared.request.Task.{Task}
 
 -- why a call is refused before the guest runs
 pub data Refusal : Type 0 where
@@ -11,10 +12,10 @@ pub data Refusal : Type 0 where
   BadFile : Fault → Refusal
   LongInput : Refusal
 
--- the call is refused, or the guest of this image runs with this input and budget
+-- the call is refused, or the task is done on the guest of this image with this input and budget
 pub data Plan : Type 0 where
   Refused : Refusal → Plan
-  Runs : Image → List ℕ → ℕ → Plan
+  Runs : Task → Image → List ℕ → ℕ → Plan
 
 -- the most bytes of an image file and of an input
 abbrev pub image_limit : ℕ
@@ -34,8 +35,8 @@ image_in file = if nat_lt image_limit (length file) then Err LongImage else refu
 -- the input that the guest gets: none where it is left unread
 abbrev pub with_input : Image → Request → List ℕ → Plan
 with_input i r input =
-    if r.no_input then Runs i [] r.budget else (
-    if nat_lt input_limit (length input) then Refused LongInput else Runs i input r.budget)
+    if r.no_input then Runs r.task i [] r.budget else (
+    if nat_lt input_limit (length input) then Refused LongInput else Runs r.task i input r.budget)
 
 abbrev pub with_image : Request → List ℕ → Result Image Refusal → Plan
 with_image r input (Err f) = Refused f

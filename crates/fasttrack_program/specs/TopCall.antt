@@ -1,36 +1,53 @@
 -- What a call of the program answers, and what it leaves on `out` and `notes`
 use Rattle.std.specs.Prelude.{◌≡◌, ℕ, List, Option, Some, None}
 use Rattle.speculation.specs.Record.{output_of}
-use Rattle.guest_model.specs.Image.{program_alone}
+use Rattle.speculation.specs.Run.{Mark, marked}
+use Rattle.guest_model.specs.Image.{Image, program_alone}
 use Rattle.guest_model.specs.declared.end.End.{End}
 use Rattle.guest_model.specs.declared.end.End.TheVariants as E
 use Rattle.elf32_loader.specs.FaultOf.{fault_of}
 use Rattle.elf32_loader.specs.declared.fault.ImageFault.{ImageFault}
 use Rattle.fasttrack_program.specs.GuestStreams.{Sinks, GetsAll, GetsPart, StopsShort, end_of}
 use Rattle.program_words.specs.CommandLine.{Request}
+use Rattle.program_words.specs.declared.request.Task.{Task}
+use Rattle.program_words.specs.declared.request.Task.TheVariants.{Alone, Trial}
+use Rattle.fasttrack_program.specs.Reports.{program_report}
 use Rattle.fasttrack_program.specs.Plan.{Plan, Refused, Runs, BadWords, LongImage, BadFile, LongInput, plan}
 use Rattle.fasttrack_program.specs.Reading.{IsTold}
 use Rattle.fasttrack_program.specs.AnswerLine.{line_of, Tells}
 use Rattle.fasttrack_program.specs.declared.answer.Answer.{Answer}
-use Rattle.fasttrack_program.specs.declared.answer.Answer.TheVariants.{Exited, Trapped, Spent, Usage, ReadFault, ImageTooLong, BadImage, InputTooLong, WriteFault, NoMemory}
+use Rattle.fasttrack_program.specs.declared.answer.Answer.TheVariants.{Exited, Trapped, Spent, Shown, Usage, ReadFault, ImageTooLong, BadImage, InputTooLong, WriteFault, NoMemory}
 
--- ---- the guest's part
+-- ---- the task's part
+
+-- What a task writes: alone passes on the guest's output, and trial drops it and writes its report to stream 1. Stream 1
+-- goes to `out`, stream 2 to `notes`.
+abbrev pub task_output : Task → Image → List ℕ → ℕ → List Mark
+task_output Alone i input budget = output_of (program_alone i input budget)
+task_output Trial i input budget = marked 1 (program_report i input budget)
 
 -- The transparency theorem for the program alone: the sinks got both streams of its whole output, and the end is its own.
 abbrev pub RunsTo : Plan → Sinks → Sinks → End → Type 0
 RunsTo (Refused r) old new e = ⊥
-RunsTo (Runs i input budget) old new e =
-    GetsAll old new (output_of (program_alone i input budget)) × (e ≡ end_of (program_alone i input budget).end)
+RunsTo (Runs Alone i input budget) old new e =
+    GetsAll old new (task_output Alone i input budget) × (e ≡ end_of (program_alone i input budget).end)
+RunsTo (Runs Trial i input budget) old new e = ⊥
 
--- the sinks got the output of the program alone up to a byte that could not be written
+-- `out` got the whole report, `notes` got nothing, and no count rose
+abbrev pub IsShown : Plan → Sinks → Sinks → Type 0
+IsShown (Refused r) old new = ⊥
+IsShown (Runs Alone i input budget) old new = ⊥
+IsShown (Runs Trial i input budget) old new = GetsAll old new (task_output Trial i input budget)
+
+-- the sinks got what the task writes up to a byte that could not be written
 abbrev pub FailsIn : Plan → Sinks → Sinks → Type 0
 FailsIn (Refused r) old new = ⊥
-FailsIn (Runs i input budget) old new = StopsShort old new (output_of (program_alone i input budget))
+FailsIn (Runs task i input budget) old new = StopsShort old new (task_output task i input budget)
 
--- the sinks got the output of the program alone up to some byte, and no count rose
+-- the sinks got what the task writes up to some byte, and no count rose
 abbrev pub StaysWithin : Plan → Sinks → Sinks → Type 0
 StaysWithin (Refused r) old new = new ≡ old
-StaysWithin (Runs i input budget) old new = GetsPart old new (output_of (program_alone i input budget))
+StaysWithin (Runs task i input budget) old new = GetsPart old new (task_output task i input budget)
 
 -- the file has this fault
 abbrev pub HasFault : Plan → ImageFault → Type 0
@@ -42,6 +59,7 @@ abbrev pub Serves : Plan → Sinks → Sinks → Answer → Type 0
 Serves p old new (Exited code) = RunsTo p old new (E.Exit code)
 Serves p old new (Trapped trap pc) = RunsTo p old new (E.Trap trap pc)
 Serves p old new Spent = RunsTo p old new E.Spent
+Serves p old new Shown = IsShown p old new
 Serves p old new Usage = (p ≡ Refused BadWords) × (new ≡ old)
 Serves p old new ReadFault = new ≡ old
 Serves p old new ImageTooLong = (p ≡ Refused LongImage) × (new ≡ old)

@@ -15,6 +15,8 @@ pub enum Answer {
     Trapped(Trap, u32),
     /// The budget of instructions was spent before the guest ended.
     Spent,
+    /// The report was written whole.
+    Shown,
     /// The words are no call of the program.
     Usage,
     /// The image or the input could not be read.
@@ -25,7 +27,7 @@ pub enum Answer {
     BadImage(ImageFault),
     /// The input has more than 16,777,216 bytes.
     InputTooLong,
-    /// The guest's output, or the line that says how it ended, could not be written.
+    /// The guest's output, the report, or the line that says how the guest ended could not be written.
     WriteFault,
     /// The host's memory ran out.
     NoMemory,
@@ -39,6 +41,7 @@ pub fn status(answer: &Answer) -> u8
         Answer::Exited(code) => (code % 256) as u8,
         Answer::Trapped(..) => 240,
         Answer::Spent => 241,
+        Answer::Shown => 0,
         Answer::Usage => 242,
         Answer::ReadFault => 243,
         Answer::ImageTooLong => 244,

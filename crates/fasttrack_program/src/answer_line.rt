@@ -18,6 +18,7 @@ pub fn conclude<N: Sink>(alloc: Global, answer: Answer, notes: &mut N) -> Answer
 {
     match answer {
         Answer::Exited(_) => answer,
+        Answer::Shown => answer,
         Answer::Trapped(trap, pc) => match trap_line(alloc, trap, pc) {
             Ok(line) => tell(notes, answer, line.as_str()),
             Err(NoMemory) => tell_no_memory(notes),

@@ -6,7 +6,9 @@ mod answer;
 mod answer_line;
 mod fault_text;
 mod read;
+mod report;
 mod serve;
+mod show_trial;
 mod top;
 
 pub use answer::{Answer, status};

@@ -7,7 +7,7 @@ ghost use Rattle.fasttrack_program.specs.TopCall.{IsAnswered, IsServed, IsRefuse
 
 use crate::answer::Answer;
 use crate::answer_line::conclude;
-use crate::serve::serve_alone;
+use crate::serve::serve_request;
 use host_io::{Files, Sink, Source};
 use program_words::{WordsFault, read_words};
 use std::alloc::Global;
@@ -16,7 +16,9 @@ use std::alloc::Global;
 ///
 /// `alone` runs the guest of an image: stream 1 of its output goes to `out`, stream 2 to `notes`. What both got is the
 /// beginning of what the program alone writes within the budget; where the answer is Exited, Trapped or Spent it is all
-/// of it, with the program's own end. Every answer but Exited is told by one line on `notes`.
+/// of it, with the program's own end. `trial` drops the guest's output: `out` gets a beginning of the report of the
+/// program's ledger, totals and end, all of it where the answer is Shown. Every answer but Exited and Shown is told by
+/// one line on `notes`.
 pub fn plain_main<F: Files, I: Source, O: Sink, N: Sink>(
     alloc: Global,
     words: &[String],
@@ -67,14 +69,5 @@ fn serve_words<F: Files, I: Source, O: Sink, N: Sink>(
         Err(WordsFault::Usage) => return Answer::Usage,
         Err(WordsFault::NoMemory) => return Answer::NoMemory,
     };
-    serve_alone(
-        alloc,
-        request.image,
-        request.budget,
-        request.no_input,
-        files,
-        input,
-        out,
-        notes,
-    )
+    serve_request(alloc, &request, files, input, out, notes)
 }

@@ -9,3 +9,5 @@ mod faults;
 mod hostile;
 #[cfg(test)]
 mod programs;
+#[cfg(test)]
+mod versions;

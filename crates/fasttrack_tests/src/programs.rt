@@ -19,7 +19,7 @@ struct Row<'a> {
 }
 
 /// A region whose original sums ten numbers to 55, with its fast version, and the exit with that sum.
-const SUM: [u32; 15] = [
+pub const SUM: [u32; 15] = [
     0x7D00_0893,
     0x0000_0073,
     0x0005_1E63,
@@ -38,7 +38,7 @@ const SUM: [u32; 15] = [
 ];
 
 /// The same region, and then two writes of the byte that the sum is.
-const SUM_TWICE: [u32; 24] = [
+pub const SUM_TWICE: [u32; 24] = [
     0x7D00_0893,
     0x0000_0073,
     0x0005_1E63,

@@ -24,7 +24,8 @@ use Rattle.clap.proofs.CallerLemmas.{present_has_entry}
 use Rattle.clap.proofs.TakesLemmas.{present_row}
 use Rattle.clap.proofs.SimpleLemmas.{is_nil}
 use Rattle.clap.proofs.WalkLemmas.{first_value-rows}
-use Rattle.program_words.specs.CommandLine.{HasBudget, HasFlag, HasImage, HeldTexts, InBudget, command_with, number_of, value_of}
+use Rattle.program_words.specs.CommandLine.{HasBudget, HasFlag, HasImage, HeldTexts, InBudget, command_with, number_of, task_of, value_of}
+use Rattle.program_words.specs.declared.request.Task.TheVariants.{Alone, Trial}
 use Rattle.program_words.proofs.Values.{both, default_given, entry_given, first_passes, takes_value}
 
 abbrev is_budget : ValueParser → Bool
@@ -194,3 +195,18 @@ flag_reads f b flag none value other = go (first_value f (codes "no-input")) ref
 -- a text that is there
 pub text_reads : (f : Found) (id : Text) (s : Bor Text) → option_map (λ s. s.now) (Some s) ≡ first_value f id → s.now ≡ value_of id (rows_of f)
 text_reads f id s is = ap (λ t. unwrap_or t []) (is ∙ first_value-rows f id)
+
+-- the task of a name that is the value, by the test whether it is `trial`
+pub task_trial : (name value : Text) (test : Bool) → name ≡ value → test ≡ bytes_eq name (codes "trial") → test ≡ true → Trial ≡ task_of value
+task_trial name value test same eq is_trial =
+    let is : bytes_eq value (codes "trial") ≡ true = ap (λ t. bytes_eq t (codes "trial")) (sym same) ∙ sym eq ∙ is_trial in
+    rw is refl
+
+pub task_alone : (name value : Text) (test : Bool) → name ≡ value → test ≡ bytes_eq name (codes "trial") → test ≡ false → Alone ≡ task_of value
+task_alone name value test same eq other =
+    let is : bytes_eq value (codes "trial") ≡ false = ap (λ t. bytes_eq t (codes "trial")) (sym same) ∙ sym eq ∙ other in
+    rw is refl
+
+-- no text is the empty value
+pub none_reads : (f : Found) (id : Text) (o : Option (Bor Text)) → option_map (λ s. s.now) o ≡ first_value f id → o ≡ None → value_of id (rows_of f) ≡ []
+none_reads f id o is none = ap (λ t. unwrap_or t []) (sym (first_value-rows f id) ∙ sym is ∙ ap (option_map (λ s. s.now)) none)

@@ -1,5 +1,5 @@
 -- The command line of the program, as a simple command of `clap`, and the request that words make of it
-use Rattle.std.specs.Prelude.{◌≡◌, ◌≤◌, ◌⊎◌, ℕ, Bool, true, List, [], ◌∷◌, Option, Some, None, codes, unwrap_or}
+use Rattle.std.specs.Prelude.{◌≡◌, ◌≤◌, ◌⊎◌, ℕ, Bool, true, List, [], ◌∷◌, Option, Some, None, codes, unwrap_or, if◌then◌else◌}
 use Rattle.std.specs.Borrow.{Bor}
 use Rattle.std.specs.Str.{bytes_eq}
 use Rattle.std.specs.Str.Parse.{digits_value, IsNumeral, without_leading_plus}
@@ -8,6 +8,8 @@ use Rattle.clap.specs.Matches.{first_value, one_text}
 use Rattle.clap.specs.declared.parser.matches.Found.{Found}
 use Rattle.clap.specs.declared.builder.ArgAction.TheVariants.{SetTrue}
 use Rattle.clap.specs.declared.builder.ValueParser.TheVariants.{Bool as BoolParser, Names, Unsigned}
+use Rattle.program_words.specs.declared.request.Task.{Task}
+use Rattle.program_words.specs.declared.request.Task.TheVariants.{Alone, Trial}
 
 -- ---- the command
 
@@ -21,7 +23,7 @@ held text = record { now = text; ref_ptr = (0, 0) }
 
 -- the commands that there are
 abbrev pub task_names : HeldTexts
-task_names = record { now = held (codes "alone") ∷ []; ref_ptr = (0, 0) }
+task_names = record { now = held (codes "alone") ∷ (held (codes "trial") ∷ []); ref_ptr = (0, 0) }
 
 -- COMMAND, required, with its possible values
 abbrev pub command_rule : HeldTexts → Rule
@@ -62,8 +64,9 @@ command = command_with task_names
 
 -- ---- the request
 
--- what words ask for: the program of an image alone, its budget, and whether the input is left unread
+-- what words ask for: a task, the image, its budget, and whether the input is left unread
 pub record Request : Type 0 where
+  pub task : Task
   pub image : List ℕ
   pub budget : ℕ
   pub no_input : Bool
@@ -76,8 +79,13 @@ value_of id rows = unwrap_or (first_of id rows) []
 abbrev pub number_of : Text → ℕ
 number_of text = digits_value 10 (without_leading_plus text)
 
+-- the task of a name among those of the commands
+abbrev pub task_of : Text → Task
+task_of name = if bytes_eq name (codes "trial") then Trial else Alone
+
 abbrev pub request_in : List Row → Request
 request_in rows = record {
+  task = task_of (value_of (codes "COMMAND") rows);
   image = value_of (codes "IMAGE") rows;
   budget = number_of (value_of (codes "budget") rows);
   no_input = bytes_eq (value_of (codes "no-input") rows) (codes "true");

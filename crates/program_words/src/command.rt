@@ -9,7 +9,7 @@ use clap::{Arg, ArgAction, Command};
 use std::alloc::{AllocError, Global};
 
 /// The names that COMMAND may have.
-static TASKS: [&str; 1] = ["alone"];
+static TASKS: [&str; 2] = ["alone", "trial"];
 
 fn command_arg<'a>(alloc: Global) -> Arg<'a>
     ensures rule { (names : HeldTexts) × (texts names.now ≡ texts task_names.now) × (rule_of result ≡ command_rule names) }

@@ -2,7 +2,7 @@
 
 ghost use Rattle.std.specs.Prelude.{◌≡◌, ◌≤◌, ◌^◌, Some, None, Err, IfOk, bytes_eq, codes, map, string_bytes};
 ghost use Rattle.clap.specs.Words.{found_of, rows_of};
-ghost use Rattle.program_words.specs.CommandLine.{HasBudget, HasFlag, HasImage, number_of, request_in, request_of, value_of};
+ghost use Rattle.program_words.specs.CommandLine.{HasBudget, HasFlag, HasImage, number_of, request_in, request_of, task_of, value_of};
 
 use crate::command::command;
 use clap::ArgMatches;
@@ -14,6 +14,8 @@ use std::alloc::{AllocError, Global};
 pub enum Task {
     /// Run the program of the image alone.
     Alone,
+    /// Check both versions of each of its regions, and report the ledger.
+    Trial,
 }
 
 /// What the words ask for.
@@ -57,12 +59,12 @@ impl From<AllocError> for WordsFault {
 pub fn read_words<'a>(alloc: Global, words: &'a [String]) -> Result<Request<'a>, WordsFault>
     ensures usage { result ≡ Err WordsFault.Usage → request_of (map string_bytes words.now) ≡ None }
     ensures ok { IfOk result (λ r. request_of (map string_bytes words.now)
-        ≡ Some (record { image = r.image.now; budget = r.budget; no_input = r.no_input })) }
+        ≡ Some (record { task = r.task; image = r.image.now; budget = r.budget; no_input = r.no_input })) }
     ensures bounds { IfOk result (λ r. (1 ≤ r.budget) × (r.budget ≤ 2 ^ 40)) }
 {
     let matches = parse_words(alloc, words)?;
     Ok(Request {
-        task: Task::Alone,
+        task: task_in(&matches),
         image: image_in(&matches),
         budget: budget_in(&matches),
         no_input: no_input_in(&matches),
@@ -80,6 +82,15 @@ fn parse_words<'a>(alloc: Global, words: &'a [String]) -> Result<ArgMatches<'a>,
         Ok(matches) => Ok(matches),
         Err(error) if error.kind() == ErrorKind::OutOfMemory => Err(WordsFault::NoMemory),
         Err(_) => Err(WordsFault::Usage),
+    }
+}
+
+fn task_in(matches: &ArgMatches<'_>) -> Task
+    ensures { result ≡ task_of (value_of (codes "COMMAND") (rows_of (found_of matches.now))) }
+{
+    match matches.get_str("COMMAND") {
+        Some(name) if name == "trial" => Task::Trial,
+        _ => Task::Alone,
     }
 }
 

@@ -15,20 +15,29 @@ fn words_of(alloc: Global, line: &str) -> Result<Vec<String>, AllocError> {
 #[test]
 fn makes_requests(rt: HostRuntime) -> Result<(), Fail> {
     let rows = [
-        ("alone x", "x", 1 << 40, false),
-        ("alone x --budget 5 --no-input", "x", 5, true),
-        ("--no-input --budget=7 alone dir/x", "dir/x", 7, true),
+        ("alone x", Task::Alone, "x", 1 << 40, false),
+        ("trial x", Task::Trial, "x", 1 << 40, false),
+        ("alone trial", Task::Alone, "trial", 1 << 40, false),
+        ("alone x --budget 5 --no-input", Task::Alone, "x", 5, true),
+        (
+            "--no-input --budget=7 trial dir/x",
+            Task::Trial,
+            "dir/x",
+            7,
+            true,
+        ),
         (
             "alone --budget 1099511627776 -- --help",
+            Task::Alone,
             "--help",
             1 << 40,
             false,
         ),
     ];
-    for (line, image, budget, no_input) in rows {
+    for (line, task, image, budget, no_input) in rows {
         let words = words_of(rt.alloc(), line)?;
         let wanted = Request {
-            task: Task::Alone,
+            task,
             image,
             budget,
             no_input,
@@ -47,7 +56,9 @@ fn refuses_other_words(rt: HostRuntime) -> Result<(), Fail> {
     let rows = [
         "",
         "alone",
+        "trial",
         "fly x",
+        "Trial x",
         "alone x y",
         "alone x --budget 0",
         "alone x --budget 1099511627777",

@@ -7,6 +7,9 @@ use Rattle.fasttrack_program.proofs.answer_line.conclude.Goals as goal
 pub returns-in-Exited : goal.returns-in-Exited
 returns-in-Exited g c = Concludes-silent _ _ c.args.answer (ap line_of c.in-Exited.is)
 
+pub returns-in-Shown : goal.returns-in-Shown
+returns-in-Shown g c = Concludes-silent _ _ c.args.answer (ap line_of c.in-Shown.is)
+
 pub returns-in-Ok : goal.returns-in-Ok
 returns-in-Ok g c = Concludes-same _ _ _ _ c.args.answer (Trapped c.in-Trapped.trap c.in-Trapped.pc) c.tell.result _ c.in-Trapped.is (c.in-Ok.ensures ∙ ap Some (sym c.as_str.ensures.value)) c.tell.ensures
 

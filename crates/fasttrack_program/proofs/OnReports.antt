@@ -1,0 +1,92 @@
+-- The report of a trial is the program's, and on `out` it is what the task writes
+use Rattle.std.proofs.Common.{◌≡◌, ℕ, List, [], ◌∷◌, ◌++◌, map, Option, Err, inl, refl, sym, ap, ◌∙◌, subst}
+use Rattle.std.specs.Io.KnownBytes.{Appends}
+use Rattle.speculation.specs.Run.{marked}
+use Rattle.speculation.specs.Ledger.{ledger}
+use Rattle.elf32_loader.specs.LoadedImage.{image_of_loaded}
+use Rattle.elf32_loader.specs.declared.loaded.Loaded.{Loaded}
+use Rattle.guest_model.specs.Image.{program_alone, start_of}
+use Rattle.guest_model.specs.Rv32.{rv32}
+use Rattle.guest_model.specs.declared.end.End.{End}
+use Rattle.guest_model.specs.declared.end.End.TheVariants.{Exit, Trap, Spent}
+use Rattle.region_ledger.specs.Ledger.{core_verdict, ledger_row, ledger_rows, core_end}
+use Rattle.region_ledger.specs.declared.row.Row.{Row}
+use Rattle.region_ledger.specs.declared.verdict.Verdict.{Verdict}
+use Rattle.region_ledger.specs.declared.verdict.Verdict.TheVariants.{Kept, Differs, Stopped, Late}
+use Rattle.region_trial.specs.Trials.{IsTrialOf}
+use Rattle.region_trial.specs.declared.trial.Trial.{Trial}
+use Rattle.fasttrack_program.specs.GuestStreams.{end_of, Sinks, GetsAll, GetsPart, StopsShort}
+use Rattle.fasttrack_program.specs.Reports.{report, told_verdict, told_row, program_report}
+use Rattle.fasttrack_program.specs.TextOnSink.{WritesText}
+use Rattle.fasttrack_program.specs.declared.alone.OutputFault.{OutputFault}
+use Rattle.fasttrack_program.specs.declared.alone.OutputFault.TheVariants.{Write, NoMemory}
+use Rattle.fasttrack_program.proofs.OnStreams.{marked-append, IsNext-marked, Gets-on_out}
+use Rattle.fasttrack_program.proofs.OnTexts.{WritesText-as}
+
+-- ---- the rows of the theory, as they are told
+
+told_verdict-back : (v : Verdict) → told_verdict (core_verdict v) ≡ v
+told_verdict-back Kept = refl
+told_verdict-back (Differs d) = refl
+told_verdict-back Stopped = refl
+told_verdict-back Late = refl
+
+told_row-back : (r : Row) → told_row (ledger_row r) ≡ r
+told_row-back r = ap (λ v. record r { verdict = v }) (told_verdict-back r.verdict)
+
+told_rows-back : (rows : List Row) → map told_row (ledger_rows rows) ≡ rows
+told_rows-back [] = refl
+told_rows-back (r ∷ rs) = ap (λ x. x ∷ map told_row (ledger_rows rs)) (told_row-back r) ∙ ap (λ xs. r ∷ xs) (told_rows-back rs)
+
+end_of-back : (e : End) → end_of (core_end e) ≡ e
+end_of-back (Exit code) = refl
+end_of-back (Trap trap pc) = refl
+end_of-back Spent = refl
+
+-- the report of a trial's rows and end
+pub trial_report : (l : Loaded) (input : List ℕ) (budget : ℕ) (t : Trial) → IsTrialOf l input budget t → report t.rows t.finished.count t.finished.end ≡ program_report (image_of_loaded l) input budget
+unfolding program_report
+trial_report l input budget t h =
+    let rows : t.rows ≡ map told_row (ledger (rv32 input) (start_of (image_of_loaded l)) budget) = sym (told_rows-back t.rows) ∙ ap (map told_row) h.rows in
+    let count : t.finished.count ≡ (program_alone (image_of_loaded l) input budget).count = ap (λ f. f.count) h.finished in
+    let end : t.finished.end ≡ end_of (program_alone (image_of_loaded l) input budget).end = sym (end_of-back t.finished.end) ∙ ap (λ f. end_of f.end) h.finished in
+    ap (λ xs. report xs t.finished.count t.finished.end) rows
+    ∙ ap (λ n. report (map told_row (ledger (rv32 input) (start_of (image_of_loaded l)) budget)) n t.finished.end) count
+    ∙ ap (λ e. report (map told_row (ledger (rv32 input) (start_of (image_of_loaded l)) budget)) (program_alone (image_of_loaded l) input budget).count e) end
+
+-- ---- a text on `out`
+
+parts_marked : (got rest text : List ℕ) → got ++ rest ≡ text → marked 1 got ++ marked 1 rest ≡ marked 1 text
+parts_marked got rest text e = sym (marked-append 1 got rest) ∙ ap (marked 1) e
+
+pub text_shown : (s : Sinks) (told : Option (List ℕ)) (faults : ℕ) (text : List ℕ) → Appends s.out told text → faults ≡ s.out_faults → GetsAll s (record s { out = told; out_faults = faults }) (marked 1 text)
+text_shown s told faults text a c = record { gets = Gets-on_out s told faults text a; calm = record { on_out = c; on_notes = refl } }
+
+-- the fault of a text by another name
+as_fault : (s : Sinks) (told : Option (List ℕ)) (faults : ℕ) (said text : List ℕ) (e f : OutputFault) → said ≡ text → e ≡ f
+    → WritesText {T = Unit {0}} s.out told s.out_faults faults said (Err e) → WritesText {T = Unit {0}} s.out told s.out_faults faults text (Err f)
+as_fault s told faults said text e f is why w = WritesText-as {T = Unit {0}} s.out told s.out_faults faults said text (Err f) is (subst (λ k. WritesText {T = Unit {0}} s.out told s.out_faults faults said (Err k)) why w)
+
+pub text_stops : (s : Sinks) (told : Option (List ℕ)) (faults : ℕ) (said text : List ℕ) (e : OutputFault) → said ≡ text → e ≡ Write
+    → WritesText {T = Unit {0}} s.out told s.out_faults faults said (Err e) → StopsShort s (record s { out = told; out_faults = faults }) (marked 1 text)
+text_stops s told faults said text e is why w =
+    let h = as_fault s told faults said text e Write is why w in
+    record {
+      got = marked 1 h.0.beginning.got;
+      rest = marked 1 h.0.beginning.rest;
+      parts = parts_marked h.0.beginning.got h.0.beginning.rest text h.0.beginning.parts;
+      gets = Gets-on_out s told faults h.0.beginning.got h.0.beginning.appends;
+      fails = inl (h.1, refl, IsNext-marked 1 h.0.beginning.rest h.0.more);
+    }
+
+pub text_within : (s : Sinks) (told : Option (List ℕ)) (faults : ℕ) (said text : List ℕ) (e : OutputFault) → said ≡ text → e ≡ NoMemory
+    → WritesText {T = Unit {0}} s.out told s.out_faults faults said (Err e) → GetsPart s (record s { out = told; out_faults = faults }) (marked 1 text)
+text_within s told faults said text e is why w =
+    let h = as_fault s told faults said text e NoMemory is why w in
+    record {
+      got = marked 1 h.0.got;
+      rest = marked 1 h.0.rest;
+      parts = parts_marked h.0.got h.0.rest text h.0.parts;
+      gets = Gets-on_out s told faults h.0.got h.0.appends;
+      calm = record { on_out = h.1; on_notes = refl };
+    }

@@ -1,0 +1,41 @@
+-- The report of a program: the rows of its ledger, their totals, and its end
+use Rattle.std.specs.Prelude.{ℕ, List, [], ◌∷◌, ◌++◌, map}
+use Rattle.speculation.specs.Ledger.{Row as LedgerRow, ledger}
+use Rattle.speculation.specs.Verdicts.{Verdict as CoreVerdict, Kept as CoreKept, Differs as CoreDiffers, Stopped as CoreStopped, Late as CoreLate}
+use Rattle.guest_model.specs.Image.{Image, program_alone, start_of}
+use Rattle.guest_model.specs.Rv32.{rv32}
+use Rattle.guest_model.specs.declared.difference.Difference.{Difference}
+use Rattle.guest_model.specs.declared.end.End.{End}
+use Rattle.region_ledger.specs.Ledger.{totals_of}
+use Rattle.region_ledger.specs.declared.row.Row.{Row}
+use Rattle.region_ledger.specs.declared.verdict.Verdict.{Verdict}
+use Rattle.region_ledger.specs.declared.verdict.Verdict.TheVariants.{Kept, Differs, Stopped, Late}
+use Rattle.report_text.specs.Reports.{row_line, totals_line, end_line}
+use Rattle.fasttrack_program.specs.GuestStreams.{end_of}
+
+-- ---- the text
+
+abbrev pub rows_text : List Row → List ℕ
+rows_text [] = []
+rows_text (r ∷ rs) = row_line r ++ rows_text rs
+
+-- the lines of these rows of a program that takes so many instructions alone and ends so
+abbrev pub report : List Row → ℕ → End → List ℕ
+report rows count e = rows_text rows ++ (totals_line (totals_of rows count) ++ end_line e)
+
+-- ---- the report of a program
+
+-- a verdict and a row of the theory, as they are told
+abbrev pub told_verdict : CoreVerdict Difference → Verdict
+told_verdict CoreKept = Kept
+told_verdict (CoreDiffers d) = Differs d
+told_verdict CoreStopped = Stopped
+told_verdict CoreLate = Late
+
+abbrev pub told_row : LedgerRow Difference → Row
+told_row r = record { number = r.number; at = r.at; pc = r.pc; original = r.original; fast = r.judged.fast; verdict = told_verdict r.judged.verdict }
+
+-- the ledger, the totals and the end of the program alone with this input, within this budget
+unfoldable pub program_report : Image → List ℕ → ℕ → List ℕ
+program_report i input budget =
+    report (map told_row (ledger (rv32 input) (start_of i) budget)) (program_alone i input budget).count (end_of (program_alone i input budget).end)

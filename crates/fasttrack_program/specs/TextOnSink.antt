@@ -1,0 +1,24 @@
+-- What the writing of a text to one sink answers and leaves
+use Rattle.std.specs.Prelude.{◌≡◌, ℕ, ◌<◌, List, ◌++◌, length, Option, Result, Ok, Err}
+use Rattle.std.specs.Io.KnownBytes.{Appends}
+use Rattle.host_io.specs.Faults.{Rose}
+use Rattle.fasttrack_program.specs.declared.alone.OutputFault.{OutputFault}
+use Rattle.fasttrack_program.specs.declared.alone.OutputFault.TheVariants.{Write, NoMemory}
+
+-- the sink got a beginning of the text, where it tells
+pub record GotBeginning (old new : Option (List ℕ)) (text : List ℕ) : Type 0 where
+  pub got : List ℕ
+  pub rest : List ℕ
+  pub parts : got ++ rest ≡ text
+  pub appends : Appends old new got
+
+-- and the text has more, whose first byte could not be written
+pub record StoppedInText (old new : Option (List ℕ)) (text : List ℕ) : Type 0 where
+  pub beginning : GotBeginning old new text
+  pub more : 0 < length beginning.rest
+
+-- All of it, or a beginning: one that is shorter after a fault, which is counted.
+abbrev pub WritesText : {T : Type 0} → (old new : Option (List ℕ)) → (faults faults' : ℕ) → List ℕ → Result T OutputFault → Type 0
+WritesText old new faults faults' text (Ok _) = Appends old new text × (faults' ≡ faults)
+WritesText old new faults faults' text (Err Write) = StoppedInText old new text × Rose faults faults'
+WritesText old new faults faults' text (Err NoMemory) = GotBeginning old new text × (faults' ≡ faults)

@@ -1,0 +1,85 @@
+//! The report of a program: its rows, their totals, and its end.
+
+ghost use Rattle.std.specs.Prelude.{◌≤◌, All};
+ghost use Rattle.speculation.specs.Ledger.{originals};
+ghost use Rattle.region_ledger.specs.Ledger.{ledger_rows, SavesAtMostAll};
+ghost use Rattle.report_text.specs.Reports.{row_line, totals_line, end_line};
+ghost use Rattle.fasttrack_program.specs.Reports.{report, rows_text};
+ghost use Rattle.fasttrack_program.specs.TextOnSink.{WritesText};
+
+use crate::alone::OutputFault;
+use guest_model::{End, NoMemory};
+use host_io::{Failed, Sink, write_whole};
+use region_ledger::{Finished, Row, Totals, totals};
+use report_text::{end_text, row_text, totals_text};
+use std::alloc::Global;
+
+/// Writes the report of these rows of a program that ended so, line by line.
+///
+/// # Errors
+/// `Write` where the sink failed, and `NoMemory` where there was no room for a line. The sink has a beginning of the
+/// report then.
+pub fn write_report<O: Sink>(
+    alloc: Global,
+    rows: &[Row],
+    finished: &Finished,
+    out: &mut O,
+) -> Result<(), OutputFault>
+    requires inside { originals (ledger_rows rows.now) ≤ finished.now.count }
+    requires saves { All SavesAtMostAll rows.now }
+    ensures { WritesText (O.contents out.old) (O.contents out.new) (O.faults out.old) (O.faults out.new) (report rows.now finished.now.count finished.now.end) result }
+{
+    write_rows(alloc, rows, out)?;
+    write_totals(alloc, &totals(rows, finished.count), out)?;
+    write_end(alloc, &finished.end, out)
+}
+
+/// Writes the lines of these rows.
+fn write_rows<O: Sink>(alloc: Global, rows: &[Row], out: &mut O) -> Result<(), OutputFault>
+    ensures { WritesText (O.contents out.old) (O.contents out.new) (O.faults out.old) (O.faults out.new) (rows_text rows.now) result }
+{
+    for row in rows {
+        write_row(alloc, row, out)?;
+    }
+    Ok(())
+}
+
+/// Writes the line of a row.
+fn write_row<O: Sink>(alloc: Global, row: &Row, out: &mut O) -> Result<(), OutputFault>
+    ensures { WritesText (O.contents out.old) (O.contents out.new) (O.faults out.old) (O.faults out.new) (row_line row.now) result }
+{
+    match row_text(alloc, row) {
+        Ok(line) => write_line(line.as_str(), out),
+        Err(NoMemory) => Err(OutputFault::NoMemory),
+    }
+}
+
+/// Writes the line of the totals.
+fn write_totals<O: Sink>(alloc: Global, totals: &Totals, out: &mut O) -> Result<(), OutputFault>
+    ensures { WritesText (O.contents out.old) (O.contents out.new) (O.faults out.old) (O.faults out.new) (totals_line totals.now) result }
+{
+    match totals_text(alloc, totals) {
+        Ok(line) => write_line(line.as_str(), out),
+        Err(NoMemory) => Err(OutputFault::NoMemory),
+    }
+}
+
+/// Writes the line of the end.
+fn write_end<O: Sink>(alloc: Global, end: &End, out: &mut O) -> Result<(), OutputFault>
+    ensures { WritesText (O.contents out.old) (O.contents out.new) (O.faults out.old) (O.faults out.new) (end_line end.now) result }
+{
+    match end_text(alloc, end) {
+        Ok(line) => write_line(line.as_str(), out),
+        Err(NoMemory) => Err(OutputFault::NoMemory),
+    }
+}
+
+/// Writes a line whole.
+fn write_line<O: Sink>(line: &str, out: &mut O) -> Result<(), OutputFault>
+    ensures { WritesText (O.contents out.old) (O.contents out.new) (O.faults out.old) (O.faults out.new) line.now result }
+{
+    match write_whole(out, line.as_bytes()) {
+        Ok(()) => Ok(()),
+        Err(Failed) => Err(OutputFault::Write),
+    }
+}

@@ -1,0 +1,301 @@
+//! Both versions of a region, checked by `trial`.
+
+use crate::call::{Given, Got, call, image_of, plain};
+use crate::programs::{SUM, SUM_TWICE, TWO_STREAMS};
+use fasttrack_program::{Answer, status};
+use rv32_asm::generate;
+use std::alloc::Global;
+use std::process::Abort;
+use std::test::Fail;
+
+/// The totals of one row, by its verdict.
+const KEPT: &str = "kept 1 differs 0 stopped 0 late 0";
+
+const DIFFERS: &str = "kept 0 differs 1 stopped 0 late 0";
+
+const STOPPED: &str = "kept 0 differs 0 stopped 1 late 0";
+
+const LATE: &str = "kept 0 differs 0 stopped 0 late 1";
+
+/// `SUM` with another fast part. Its end moves behind the part, and the jump over the part goes there.
+fn with_fast_part(alloc: Global, part: &[u32]) -> Result<Vec<u32>, Fail> {
+    let offset = (part.len() as u32).wrapping_mul(4).wrapping_add(4);
+    let mut words = Vec::from_slice(alloc, &SUM[..8])?;
+    words.push(0x0000_006F | offset.wrapping_mul(0x0010_0000))?;
+    words.extend_from_slice(part)?;
+    words.extend_from_slice(&SUM[11..])?;
+    Ok(words)
+}
+
+/// `trial` of the small image of these words, with this budget and the input `abc`.
+fn trial_of(alloc: Global, words: &[u32], budget: &str) -> Result<Got, Fail> {
+    let image = image_of(alloc, words)?;
+    call(
+        alloc,
+        &Given {
+            words: &["trial", "g", "--budget", budget],
+            ..plain(image.as_slice(), b"abc")
+        },
+    )
+}
+
+/// The report is shown, and nothing else is written.
+fn check(rt: &impl Abort, got: &Got, report: &str) -> Result<(), Fail> {
+    assert!(rt; got.answer == Answer::Shown && status(&got.answer) == 0);
+    assert!(rt; got.out.as_slice() == report.as_bytes());
+    assert!(rt; got.notes.is_empty());
+    Ok(())
+}
+
+/// The reports of `SUM` with these fast parts: what its row says of the fast version, the verdict's totals, and the
+/// path count.
+fn check_parts(
+    rt: &impl Abort,
+    alloc: Global,
+    rows: &[(&[u32], &str, &str, u64)],
+) -> Result<(), Fail> {
+    for (part, told, totals, path) in rows {
+        let words = with_fast_part(alloc, part)?;
+        let got = trial_of(alloc, words.as_slice(), "1000")?;
+        let report = format!(in alloc;
+            "region 0 at 1 pc 00010004 original 36 {told}\nregions 1 {totals} alone 40 path {path}\nend exit 55\n"
+        )?;
+        check(rt, &got, report.as_str())?;
+    }
+    Ok(())
+}
+
+#[test]
+fn verdicts(rt: HostRuntime) -> Result<(), Fail> {
+    check_parts(
+        &rt,
+        rt.alloc(),
+        &[
+            (&[0x0370_0513, 0x0000_0293], "fast 5 kept", KEPT, 9),
+            (
+                &[0x0360_0513, 0x0000_0293],
+                "fast 5 differs register 10",
+                DIFFERS,
+                40,
+            ),
+            (
+                &[0x0370_0513, 0xFF11_0FA3],
+                "fast 5 differs byte 7ffffeff",
+                DIFFERS,
+                40,
+            ),
+            (&[0x0370_0513, 0xFE01_0FA3], "fast 5 kept", KEPT, 9),
+            (&[0x0000_006F, 0x0000_0293], "fast 36 late", LATE, 40),
+            (&[0x0010_0073, 0x0000_0293], "fast 3 stopped", STOPPED, 40),
+            (&[0x0000_0067, 0x0000_0293], "fast 4 stopped", STOPPED, 40),
+            (&[0x05D0_0893, 0x0000_0073], "fast 4 stopped", STOPPED, 40),
+            (&[0xFE9F_F06F, 0x0000_0293], "fast 36 late", LATE, 40),
+        ],
+    )
+}
+
+/// Fast parts that read, change code, write, and move the break.
+#[test]
+fn hostile_parts(rt: HostRuntime) -> Result<(), Fail> {
+    let reads = [
+        0x0000_0513,
+        0xFFF1_0593,
+        0x0010_0613,
+        0x03F0_0893,
+        0x0000_0073,
+        0x0370_0513,
+        0x0000_0593,
+        0x0000_0613,
+    ];
+    let changes_code = [0x0001_02B7, 0x0002_A623, 0x0370_0513, 0x0000_0293];
+    let writes_far = [0x7FF0_02B7, 0x0112_8023, 0x0370_0513, 0x0000_0293];
+    let writes_out = [
+        0x0010_0513,
+        0xFFF1_0593,
+        0x0010_0613,
+        0x0400_0893,
+        0x0000_0073,
+        0x0370_0513,
+        0x0000_0593,
+        0x0000_0613,
+    ];
+    let moves_break = [
+        0x0000_0513,
+        0x0D60_0893,
+        0x0000_0073,
+        0x0105_0513,
+        0x0000_0073,
+        0x0370_0513,
+    ];
+    check_parts(
+        &rt,
+        rt.alloc(),
+        &[
+            (&reads, "fast 11 differs place", DIFFERS, 40),
+            (&changes_code, "fast 7 differs byte 0001000c", DIFFERS, 40),
+            (&writes_far, "fast 7 differs byte 7ff00000", DIFFERS, 40),
+            (&[0xFDDF_F06F, 0x0000_0293], "fast 36 late", LATE, 40),
+            (&[0x0100_006F, 0x0000_0293], "fast 5 stopped", STOPPED, 40),
+            (&[0x0020_0067, 0x0000_0293], "fast 3 stopped", STOPPED, 40),
+            (&writes_out, "fast 11 kept", KEPT, 15),
+            (&moves_break, "fast 9 differs break", DIFFERS, 40),
+        ],
+    )
+}
+
+/// A fast version that takes the original's way is kept at the original's count, and saves nothing.
+#[test]
+fn a_tie(rt: HostRuntime) -> Result<(), Fail> {
+    let mut words = SUM;
+    words[2] = 0x0000_0013;
+    let got = trial_of(rt.alloc(), &words, "1000")?;
+    check(
+        &rt,
+        &got,
+        "region 0 at 1 pc 00010004 original 36 fast 36 kept\nregions 1 kept 1 differs 0 stopped 0 late 0 alone 40 path 40\nend exit 55\n",
+    )
+}
+
+/// A region that closes exactly at the budget has a row, and one that would close one instruction past it has none.
+#[test]
+fn budgets(rt: HostRuntime) -> Result<(), Fail> {
+    let rows = [
+        (
+            "1000",
+            "region 0 at 1 pc 00010004 original 36 fast 5 kept\nregions 1 kept 1 differs 0 stopped 0 late 0 alone 49 path 18\nend exit 0\n",
+        ),
+        (
+            "37",
+            "region 0 at 1 pc 00010004 original 36 fast 5 kept\nregions 1 kept 1 differs 0 stopped 0 late 0 alone 37 path 6\nend spent\n",
+        ),
+        (
+            "36",
+            "regions 0 kept 0 differs 0 stopped 0 late 0 alone 36 path 36\nend spent\n",
+        ),
+        (
+            "1",
+            "regions 0 kept 0 differs 0 stopped 0 late 0 alone 1 path 1\nend spent\n",
+        ),
+    ];
+    for (budget, report) in rows {
+        let got = trial_of(rt.alloc(), &SUM_TWICE, budget)?;
+        check(&rt, &got, report)?;
+    }
+    Ok(())
+}
+
+/// An opening call inside a region opens none, a closing call outside of one does nothing, and a region that the program
+/// never closes has no row. What the guest writes to either stream is dropped, and a trap is told.
+#[test]
+fn other_shapes(rt: HostRuntime) -> Result<(), Fail> {
+    let opens_twice = [
+        0x7D00_0893,
+        0x0000_0073,
+        0x0000_0073,
+        0x0000_0513,
+        0x7D10_0893,
+        0x0000_0073,
+        0x05D0_0893,
+        0x0000_0073,
+    ];
+    let closes_twice = [
+        0x7D00_0893,
+        0x0000_0073,
+        0x0000_0073,
+        0x7D10_0893,
+        0x0000_0073,
+        0x0000_0073,
+        0x0000_0513,
+        0x05D0_0893,
+        0x0000_0073,
+    ];
+    let closes_only = [
+        0x7D10_0893,
+        0x0000_0073,
+        0x0000_0513,
+        0x05D0_0893,
+        0x0000_0073,
+    ];
+    let never_closes = [0x7D00_0893, 0x0000_0073, 0x05D0_0893, 0x0000_0073];
+    let rows: [(&[u32], &str); 6] = [
+        (
+            &opens_twice,
+            "region 0 at 1 pc 00010004 original 4 fast 4 kept\nregions 1 kept 1 differs 0 stopped 0 late 0 alone 8 path 8\nend exit 0\n",
+        ),
+        (
+            &closes_twice,
+            "region 0 at 1 pc 00010004 original 3 fast 3 kept\nregions 1 kept 1 differs 0 stopped 0 late 0 alone 9 path 9\nend exit 0\n",
+        ),
+        (
+            &closes_only,
+            "regions 0 kept 0 differs 0 stopped 0 late 0 alone 5 path 5\nend exit 0\n",
+        ),
+        (
+            &never_closes,
+            "regions 0 kept 0 differs 0 stopped 0 late 0 alone 4 path 4\nend exit 0\n",
+        ),
+        (
+            &TWO_STREAMS,
+            "regions 0 kept 0 differs 0 stopped 0 late 0 alone 11 path 11\nend exit 0\n",
+        ),
+        (
+            &[0x02C5_C533],
+            "regions 0 kept 0 differs 0 stopped 0 late 0 alone 2 path 2\nend trap illegal at 00010004\n",
+        ),
+    ];
+    for (words, report) in rows {
+        let got = trial_of(rt.alloc(), words, "1000")?;
+        check(&rt, &got, report)?;
+    }
+    Ok(())
+}
+
+/// One region after the other, with every verdict that the generator makes.
+#[test]
+fn many_regions(rt: HostRuntime) -> Result<(), Fail> {
+    let image = generate(rt.alloc(), 1, 6)?;
+    let got = call(
+        rt.alloc(),
+        &Given {
+            words: &["trial", "g"],
+            ..plain(image.as_slice(), b"")
+        },
+    )?;
+    check(
+        &rt,
+        &got,
+        "region 0 at 4 pc 00010010 original 30010 fast 7 kept\n\
+         region 1 at 30023 pc 0001006c original 30031 fast 7 differs register 10\n\
+         region 2 at 60063 pc 000100c8 original 30052 fast 30052 late\n\
+         region 3 at 90124 pc 00010118 original 30073 fast 7 kept\n\
+         region 4 at 120206 pc 00010174 original 30094 fast 7 kept\n\
+         region 5 at 150309 pc 000101d0 original 30115 fast 7 differs register 10\n\
+         regions 6 kept 3 differs 2 stopped 0 late 1 alone 180435 path 90279\n\
+         end exit 0\n",
+    )
+}
+
+/// Where a line of the report can't be written, `out` has the lines before it.
+#[test]
+fn report_that_fails(rt: HostRuntime) -> Result<(), Fail> {
+    let image = image_of(rt.alloc(), &SUM)?;
+    let rows: [&[u8]; 3] = [
+        b"",
+        b"region 0 at 1 pc 00010004 original 36 fast 5 kept\n",
+        b"region 0 at 1 pc 00010004 original 36 fast 5 kept\nregions 1 kept 1 differs 0 stopped 0 late 0 alone 40 path 9\n",
+    ];
+    for (k, out) in rows.iter().enumerate() {
+        let got = call(
+            rt.alloc(),
+            &Given {
+                words: &["trial", "g"],
+                failing_out: &[k as u64],
+                ..plain(image.as_slice(), b"")
+            },
+        )?;
+        assert!(rt; got.answer == Answer::WriteFault && status(&got.answer) == 247);
+        assert!(rt; got.out.as_slice() == *out);
+        assert!(rt; got.notes.as_slice() == b"fasttrack: write failed\n".as_slice());
+    }
+    Ok(())
+}

@@ -1,0 +1,4 @@
+pub mod OnPages
+pub mod OnProgress
+pub mod OnRuns
+pub mod OnWrites

@@ -1,0 +1,6 @@
+pub mod Kept
+pub mod Opening
+pub mod Progress
+pub mod Runs
+pub mod Transitions
+pub mod Views

@@ -1,0 +1,19 @@
+//! Tracks: runs of the guest machine that start in some state and can be run on in slices, forked into the two versions
+//! of a region, compared by the pages that they wrote, and thrown away.
+//!
+//! Where a track stands is told by the definitions of the crate `speculation`, at the guest machine.
+#![tactic(auto)]
+
+mod comparison;
+mod progress;
+mod stop;
+mod track;
+
+pub use comparison::same;
+pub use held_output::Held;
+pub use speculation::Kind;
+pub use stop::Stop;
+pub use track::{Crossed, Forked, Track, TrackState};
+
+#[cfg(test)]
+mod tests;
