@@ -1,0 +1,2 @@
+pub mod OnReach
+pub mod OnLedgers

@@ -1,0 +1,2 @@
+-- Ledgers and ends, part by part
+use Rattle.std.proofs.Common.{◌≡◌, ℕ}
