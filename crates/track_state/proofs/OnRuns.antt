@@ -1,6 +1,6 @@
 -- A track that was run on: the parts of the run put together
-use Rattle.std.proofs.Common.{◌≡◌, ◌≢◌, ℕ, zero, suc, ◌+◌, ◌-◌, ◌<◌, ◌≤◌, min, Bool, true, false, ◌&&◌, ◌||◌, List, [], ◌++◌, length, Option, Some, None, is_some, unwrap_or, nat_eq, nat_lt, nat_le, refl, sym, ap, ap₂, ◌∙◌, subst, inl, inr, append_assoc, append-nil, add-zero, add-suc, arith}
-use Rattle.std.proofs.lemmas.Bool.{cases_lt, leb-true, eq-eqb, ne_eqb, lt-leb, le-leb, or_parts}
+use Rattle.std.proofs.Common.{◌≡◌, ◌≢◌, ℕ, zero, suc, ◌+◌, ◌-◌, ◌<◌, ◌≤◌, min, Bool, true, false, ◌&&◌, ◌||◌, List, [], ◌++◌, length, Option, Some, None, is_some, unwrap_or, nat_eq, nat_lt, nat_le, ◌⊎◌, refl, sym, ap, ap₂, ◌∙◌, subst, inl, inr, append_assoc, append-nil, add-zero, add-suc, arith}
+use Rattle.std.proofs.lemmas.Bool.{cases_lt, leb-true, eq-eqb, ne_eqb, lt-ltb, lt-leb, le-leb, or_parts}
 use Rattle.speculation.specs.declared.tracks.Kind.{Kind}
 use Rattle.speculation.specs.declared.tracks.Kind.TheVariants.{Normal, Fast, Segment}
 use Rattle.speculation.specs.Machine.{Machine}
@@ -28,10 +28,16 @@ module _ (input : List ℕ) where
   new_pieces-none Fast s own = refl
   new_pieces-none Segment s own = refl
 
+  go-zero : (p : Point MachineState End) → go (rv32 input) p 0 ≡ p
+  unfolding go
+  go-zero p = refl
+
   plain-pieces : (s : MachineState) (own n : ℕ)
       → pieces (rv32 input) (go (rv32 input) (fresh s) 0) 0 (own + n) ≡ pieces (rv32 input) (go (rv32 input) (fresh s) 0) 0 own ++ pieces (rv32 input) (go (rv32 input) (fresh s) own) own n
-  unfolding go
-  plain-pieces s own n = pieces-add (rv32 input) (fresh s) 0 own n
+  plain-pieces s own n =
+      ap (λ (p : Point MachineState End). pieces (rv32 input) p 0 (own + n)) (go-zero (fresh s)) ∙ pieces-add (rv32 input) (fresh s) 0 own n
+      ∙ (let first : 0 + own ≡ own = omega arith in ap (λ k. pieces (rv32 input) (fresh s) 0 own ++ pieces (rv32 input) (go (rv32 input) (fresh s) own) k n) first)
+      ∙ ap (λ (p : Point MachineState End). pieces (rv32 input) p 0 own ++ pieces (rv32 input) (go (rv32 input) (fresh s) own) own n) (sym (go-zero (fresh s)))
 
   -- those of own + n instructions are those of the first `own`, and those of the others
   pub new_pieces-more : (kind : Kind) (s : MachineState) (own n : ℕ) → new_pieces (rv32 input) kind s 0 (own + n) ≡ new_pieces (rv32 input) kind s 0 own ++ new_pieces (rv32 input) kind s own n
@@ -42,7 +48,7 @@ module _ (input : List ℕ) where
   -- ---- rests
 
   -- the test of `rests_after`, by where the track stands then and what it holds
-  abbrev rests_of : Kind → ℕ → ℕ → Point MachineState End → List Piece → Bool
+  abbrev pub rests_of : Kind → ℕ → ℕ → Point MachineState End → List Piece → Bool
   rests_of kind budget n p ps = (meets (rv32 input) kind n p.state p.end || (is_some p.end || nat_eq n budget)) || nat_le most_held (held_size ps)
 
   abbrev over_of : Kind → Point MachineState End → List Piece → Bool
@@ -82,7 +88,7 @@ module _ (input : List ℕ) where
 
   counted : (n : ℕ) (s : MachineState) → (n ≡ 0 → at_end s ≡ false) → at_end s ≡ true → nat_lt 0 n && at_end s ≡ true
   counted zero s h k = absurd (let e = h refl in cc)
-  counted (suc n) s h k = k
+  counted (suc n) s h k = ap (λ b. b && at_end s) (lt-ltb 0 (suc n) (omega arith)) ∙ k
 
   meets-true : (kind : Kind) (n : ℕ) (s : MachineState) → IsOutside kind n s → halts kind s ≡ true → meets (rv32 input) kind n s None ≡ true
   meets-true Normal n s o h = counted n s (o.outside (λ e. cc)) h
@@ -115,6 +121,10 @@ module _ (input : List ℕ) where
   pub rests-full : (kind : Kind) (budget n : ℕ) (p : Point MachineState End) (ps : List Piece) → nat_le most_held (held_size ps) ≡ true → rests_of kind budget n p ps ≡ true
   rests-full kind budget n p ps h = or-right (meets (rv32 input) kind n p.state p.end || (is_some p.end || nat_eq n budget)) (nat_le most_held (held_size ps)) h
 
+  pub rests-end : (kind : Kind) (budget n : ℕ) (s : MachineState) (o : Option End) (ps : List Piece) → is_some o ≡ true → rests_of kind budget n (record { state = s; end = o }) ps ≡ true
+  rests-end kind budget n s o ps h =
+      or-left (meets (rv32 input) kind n s o || (is_some o || nat_eq n budget)) (nat_le most_held (held_size ps)) (or-right (meets (rv32 input) kind n s o) (is_some o || nat_eq n budget) (or-left (is_some o) (nat_eq n budget) h))
+
   -- ---- the length of a run
 
   -- it rests at n, and not before
@@ -129,3 +139,57 @@ module _ (input : List ℕ) where
   pub length-whole : (t : TrackView) (k : ℕ) → ((i : ℕ) → i < k → rests_after input t i ≡ false) → k ≡ run_length input t k
   unfolding run_length
   length-whole t k before = sym (ap (λ o. unwrap_or o k) (first-none (rests_after input t) 0 k (λ i low less. before i (omega arith))))
+
+  -- ---- a track before a part of its run
+
+  -- The run goes on from state s with n0 instructions behind the track's: none, or the opening call.
+  pub record Starts (t : TrackView) (limit n0 : ℕ) (s : MachineState) : Type 0 where
+    pub count : n0 ≤ limit
+    pub points : (j : ℕ) → n0 + j ≤ limit → point (rv32 input) t.kind t.start (t.own + (n0 + j)) ≡ go (rv32 input) (fresh s) j
+    pub pieces : (j : ℕ) → new_pieces (rv32 input) t.kind t.start t.own (n0 + j) ≡ kept_pieces input t.kind s (t.own + n0) j
+    pub before : (i : ℕ) → i < n0 → rests_after input t i ≡ false
+    pub outside : (j : ℕ) → n0 + j ≤ limit → IsOutside t.kind (t.own + (n0 + j)) (go (rv32 input) (fresh s) j).state
+
+  -- ---- the parts put together
+
+  module _ (t : TrackView) (limit n0 : ℕ) (s u : MachineState) (held : List Piece) (p : Progress) (starts : Starts t limit n0 s) (ran : IsProgress input t.kind s (t.own + n0) t.held (limit - n0) u held p) where
+    within : n0 + p.taken ≤ limit
+    within = omega (arith, starts.count, ran.below)
+
+    pub ran-at : point (rv32 input) t.kind t.start (t.own + (n0 + p.taken)) ≡ record { state = u; end = p.end }
+    ran-at = starts.points p.taken within ∙ ran.at
+
+    pub ran-holds : held ≡ t.held ++ new_pieces (rv32 input) t.kind t.start t.own (n0 + p.taken)
+    ran-holds = ran.holds ∙ ap (λ ps. t.held ++ ps) (sym (starts.pieces p.taken))
+
+    rests-later : (j : ℕ) → n0 + j ≤ limit → rests_after input t (n0 + j) ≡ rests_of t.kind t.budget (t.own + (n0 + j)) (go (rv32 input) (fresh s) j) (t.held ++ kept_pieces input t.kind s (t.own + n0) j)
+    rests-later j le = rests-at t (n0 + j) (go (rv32 input) (fresh s) j) (t.held ++ kept_pieces input t.kind s (t.own + n0) j) (starts.points j le) (ap (λ ps. t.held ++ ps) (starts.pieces j))
+
+    pub ran-before : t.own + limit ≤ t.budget → (i : ℕ) → i < n0 + p.taken → rests_after input t i ≡ false
+    ran-before fits i less = elim (cases_lt i n0) [
+      | inl low ↦ starts.before i low
+      | inr high ↦ (let j = i - n0 in
+        let whole : n0 + j ≡ i = omega arith in
+        let le : n0 + j ≤ limit = omega (arith, within) in
+        subst (λ k. rests_after input t k ≡ false) whole
+        (rests-later j le ∙ rests-not t.kind t.budget (t.own + (n0 + j)) (go (rv32 input) (fresh s) j) (t.held ++ kept_pieces input t.kind s (t.own + n0) j) (ran.going j (omega arith)) (omega (arith, within))))
+    ]
+
+    ran-over : is_over input t.kind s (t.own + n0) t.held p.taken ≡ true → rests_after input t (n0 + p.taken) ≡ true
+    ran-over h =
+        rests-later p.taken within
+        ∙ rests-over t.kind t.budget (t.own + (n0 + p.taken)) (go (rv32 input) (fresh s) p.taken) (t.held ++ kept_pieces input t.kind s (t.own + n0) p.taken) (starts.outside p.taken within) h
+
+    ran-limit : (k : ℕ) → limit ≡ min k (t.budget - t.own) → t.own ≤ t.budget → n0 + p.taken ≡ limit → ((i : ℕ) → i < n0 + p.taken → rests_after input t i ≡ false) → n0 + p.taken ≡ run_length input t k
+    ran-limit k is fits same before = elim (cases_lt (n0 + p.taken) k) [
+      | inl less ↦ (let spent : t.own + (n0 + p.taken) ≡ t.budget = omega arith in
+        length-rests t k (n0 + p.taken) (omega arith)
+        (rests-at t (n0 + p.taken) (point (rv32 input) t.kind t.start (t.own + (n0 + p.taken))) (t.held ++ new_pieces (rv32 input) t.kind t.start t.own (n0 + p.taken)) refl refl
+        ∙ rests-spent t.kind t.budget (t.own + (n0 + p.taken)) (point (rv32 input) t.kind t.start (t.own + (n0 + p.taken))) (t.held ++ new_pieces (rv32 input) t.kind t.start t.own (n0 + p.taken)) spent) before)
+      | inr high ↦ (let whole : n0 + p.taken ≡ k = omega arith in
+        whole ∙ length-whole t k (λ i less. before i (omega arith)))
+    ]
+
+    pub ran-length : (k : ℕ) → limit ≡ min k (t.budget - t.own) → t.own ≤ t.budget → (p.taken ≡ limit - n0) ⊎ (is_over input t.kind s (t.own + n0) t.held p.taken ≡ true) → n0 + p.taken ≡ run_length input t k
+    ran-length k is fits (inl last) = ran-limit k is fits (omega (arith, starts.count)) (ran-before (omega arith))
+    ran-length k is fits (inr over) = length-rests t k (n0 + p.taken) (omega (arith, within)) (ran-over over) (ran-before (omega arith))

@@ -23,6 +23,21 @@ pub fn same<L>(a: &TrackState, b: &TrackState, steps: &mut Steps<L>) -> Option<D
     ensures none { (result ≡ None) ↔ (flat_state a.now ≡ flat_state b.now) }
     ensures steps { steps.new ≤ steps.old + in_either (written_of a.now.memory) (written_of b.now.memory) }
 {
+    let _left = a.regs.pc();
+    let _right = b.regs.pc();
+    find_difference(a, b, steps)
+}
+
+fn find_difference<L>(
+    a: &TrackState,
+    b: &TrackState,
+    steps: &mut Steps<L>,
+) -> Option<Difference>
+    requires comparable { AreComparable a.now b.now }
+    requires room { steps.old + in_either (written_of a.now.memory) (written_of b.now.memory) < 2 ^ 64 }
+    ensures first { result ≡ difference (flat_state a.now) (flat_state b.now) }
+    ensures steps { steps.new ≤ steps.old + in_either (written_of a.now.memory) (written_of b.now.memory) }
+{
     if a.regs.pc() != b.regs.pc() {
         return Some(Difference::Pc);
     }
@@ -35,8 +50,10 @@ pub fn same<L>(a: &TrackState, b: &TrackState, steps: &mut Steps<L>) -> Option<D
     if a.heap.brk != b.heap.brk {
         return Some(Difference::Break);
     }
-    let at = first_difference(&a.memory, &b.memory, steps)?;
-    Some(Difference::Byte(at))
+    match first_difference(&a.memory, &b.memory, steps) {
+        Some(at) => Some(Difference::Byte(at)),
+        None => None,
+    }
 }
 
 /// The least register that differs.

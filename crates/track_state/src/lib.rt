@@ -5,6 +5,7 @@
 #![tactic(auto)]
 
 mod comparison;
+pub mod laws;
 mod progress;
 mod stop;
 mod track;

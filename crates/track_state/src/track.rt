@@ -14,6 +14,7 @@ use std::alloc::Global;
 use std::sync::Arc;
 
 mod run;
+mod snapshots;
 mod transitions;
 
 pub use transitions::{Crossed, Forked};

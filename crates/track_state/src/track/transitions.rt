@@ -1,8 +1,11 @@
 //! What a track becomes at its boundary.
 
+use super::snapshots::{close_region, open_region, start_here};
 use super::{Track, TrackState};
 use basic_types::NoMemory;
 use held_output::Held;
+use speculation::Kind;
+use std::mem;
 use std::sync::Arc;
 
 /// What a fork hands out.
@@ -36,24 +39,61 @@ impl Track {
     ///
     /// # Errors
     /// `NoMemory` where there is no room for further images; the track is then as before.
+    #[tactic(auto, unfolding(crate::specs::Views::view_of, crate::specs::Views::state_of))]
     pub fn fork(&mut self) -> Result<Forked, NoMemory>
         requires { IsAtBoundary Segment (view_of self.old) }
         ensures { MatchResult result (IsForked self.old self.new) (λ _. IsUnchanged self.old self.new) }
     {
-        let _ = self;
-        Err(NoMemory)
+        let versions = match open_region(self.alloc, &mut self.state) {
+            Ok(versions) => versions,
+            Err(NoMemory) => return Err(NoMemory),
+        };
+        let normal = Track {
+            alloc: self.alloc,
+            kind: Kind::Normal,
+            start: versions.normal_start,
+            state: versions.normal,
+            own: 0,
+            held: Held::new(self.alloc),
+            end: None,
+            budget: self.budget,
+        };
+        let steps = self.own;
+        let held = mem::replace(&mut self.held, Held::new(self.alloc));
+        self.kind = Kind::Fast;
+        self.start = versions.fast_start;
+        self.own = 0;
+        self.end = None;
+        Ok(Forked {
+            steps,
+            held,
+            normal,
+        })
     }
 
     /// A fast version at the closing call goes on as the segment behind the region.
     ///
     /// # Errors
     /// `NoMemory` where there is no room for further images; the track is then as before.
+    #[tactic(auto, unfolding(crate::specs::Views::view_of, crate::specs::Views::state_of))]
     pub fn cross(&mut self) -> Result<Crossed, NoMemory>
         requires { IsAtBoundary Fast (view_of self.old) }
         ensures { MatchResult result (IsCrossed self.old self.new) (λ _. IsUnchanged self.old self.new) }
     {
-        let _ = self;
-        Err(NoMemory)
+        let closing = match close_region(self.alloc, &mut self.state) {
+            Ok(closing) => closing,
+            Err(NoMemory) => return Err(NoMemory),
+        };
+        let steps = self.own;
+        self.held = Held::new(self.alloc);
+        self.kind = Kind::Segment;
+        self.start = closing.start;
+        self.own = 0;
+        self.end = None;
+        Ok(Crossed {
+            steps,
+            end: closing.end,
+        })
     }
 
     /// An original at the closing call goes on as the segment behind the region. The number of its instructions and its
@@ -61,11 +101,21 @@ impl Track {
     ///
     /// # Errors
     /// `NoMemory` where there is no room for further images; the track is then as before.
+    #[tactic(auto, unfolding(crate::specs::Views::view_of, crate::specs::Views::state_of))]
     pub fn go_on(&mut self) -> Result<(u64, Held), NoMemory>
         requires { IsAtBoundary Normal (view_of self.old) }
         ensures { MatchResult result (GoesOn self.old self.new) (λ _. IsUnchanged self.old self.new) }
     {
-        let _ = self;
-        Err(NoMemory)
+        let start = match start_here(self.alloc, &mut self.state) {
+            Ok(start) => start,
+            Err(NoMemory) => return Err(NoMemory),
+        };
+        let steps = self.own;
+        let held = mem::replace(&mut self.held, Held::new(self.alloc));
+        self.kind = Kind::Segment;
+        self.start = start;
+        self.own = 0;
+        self.end = None;
+        Ok((steps, held))
     }
 }
