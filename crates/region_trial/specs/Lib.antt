@@ -1,1 +1,4 @@
 pub mod Trials
+pub mod Reached
+pub mod Finished
+pub mod Regions

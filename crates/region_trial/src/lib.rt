@@ -2,8 +2,13 @@
 //! they give.
 #![tactic(auto)]
 
+mod reach;
+mod region;
 mod trial;
 
 pub use guest_model::NoMemory;
 pub use region_ledger::{Finished, Row, Rows};
 pub use trial::{Trial, run_trial};
+
+#[cfg(test)]
+mod tests;

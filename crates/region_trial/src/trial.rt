@@ -1,12 +1,23 @@
 //! The trial of a program.
 
-ghost use Rattle.std.specs.Prelude.{◌≤◌, ◌^◌, IfOk};
+ghost use Rattle.std.specs.Prelude.{◌≡◌, ◌+◌, ◌≤◌, ◌<◌, ◌^◌, IfOk};
+ghost use Rattle.speculation.specs.declared.tracks.Kind.TheVariants.{Segment};
+ghost use Rattle.guest_model.specs.Image.{start_of};
+ghost use Rattle.rv32_law.specs.GuestStates.{IsGuestState};
+ghost use Rattle.elf32_loader.specs.LoadedImage.{image_of_loaded};
+ghost use Rattle.track_state.specs.Kept.{flat_state};
+ghost use Rattle.track_state.specs.Views.{view_of, begun};
 ghost use Rattle.region_trial.specs.Trials.{IsTrialOf};
+ghost use Rattle.region_trial.specs.Regions.{Steps};
 
+use crate::reach::reach;
+use crate::region::{Step, pass_region};
 use elf32_loader::Loaded;
-use guest_model::NoMemory;
+use guest_model::{NoMemory, Regs, State};
+use paged_image::PagedImage;
 use region_ledger::{Finished, Rows};
 use std::alloc::Global;
+use track_state::{Kind, Track, TrackState};
 
 /// How a program ended, and the ledger of its regions.
 #[derive(Debug, Drop)]
@@ -30,5 +41,56 @@ pub fn run_trial(
     requires within { budget ≤ 2 ^ 40 }
     ensures { IfOk result (IsTrialOf loaded.now input.now budget) }
 {
-    Err(NoMemory)
+    let mut track = Track::begin(alloc, Kind::Segment, start(alloc, loaded)?, budget)?;
+    let mut rows = Vec::new(alloc);
+    let mut at = 0;
+    loop {
+        match next_region(&mut track, input, rows.len() as u64, at, budget - at)? {
+            Step::Region(row) => {
+                at = row.at + row.original;
+                rows.push(row)?;
+            }
+            Step::Finished(finished) => {
+                return Ok(Trial {
+                    finished,
+                    rows: Rows::from_vec(rows),
+                });
+            }
+        }
+    }
+}
+
+/// The state in which the program of an image starts.
+fn start(alloc: Global, loaded: &Loaded) -> Result<TrackState, NoMemory>
+    ensures { IfOk result (λ s. flat_state s ≡ start_of (image_of_loaded loaded.now)) }
+{
+    Ok(State {
+        regs: Regs::start(loaded.entry),
+        memory: PagedImage::from_areas(alloc, loaded.areas.as_slice())?,
+        place: 0,
+        heap: loaded.heap,
+    })
+}
+
+/// Runs the program on to its next region and over it, from a segment's start after `at` instructions of the program and
+/// with `left` still in its budget. The track goes on as the segment behind the region.
+fn next_region(
+    track: &mut Track,
+    input: &[u8],
+    number: u64,
+    at: u64,
+    left: u64,
+) -> Result<Step, NoMemory>
+    requires track { view_of track.old ≡ begun Segment (view_of track.old).start (view_of track.old).budget }
+    requires guest { IsGuestState input.now (view_of track.old).start }
+    requires budget { left ≤ (view_of track.old).budget }
+    requires sum { at + left < 2 ^ 64 }
+    ensures { IfOk result (λ step. Steps input.now (view_of track.old).start at left number step (view_of track.new) (view_of track.old).budget) }
+{
+    let reached = reach(track, input, left)?;
+    let own = track.own();
+    match reached.finished(at + own) {
+        Some(finished) => Ok(Step::Finished(finished)),
+        None => pass_region(track, input, number, at + own, left - own),
+    }
 }

@@ -1,0 +1,4 @@
+pub mod OnReach
+pub mod OnLedgers
+pub mod OnRegions
+pub mod OnTrials
