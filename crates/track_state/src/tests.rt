@@ -6,7 +6,7 @@ ghost use Rattle.track_state.specs.Views.{view_of};
 ghost use Rattle.track_state.specs.Runs.{RunsOver};
 ghost use Rattle.track_state.specs.Transitions.{IsAtBoundary};
 
-use crate::laws::{tracks_keep_their_starts, tracks_run_over_inputs};
+use crate::laws::tracks_keep_their_starts;
 use crate::{Crossed, Held, Kind, Stop, Track, TrackState, same};
 use basic_types::{Bytes, NoMemory, Steps};
 use guest_model::{Area, Difference, End, Heap, Memory, Regs, State};
@@ -92,15 +92,22 @@ fn start(alloc: Global, words: &[u32]) -> Result<TrackState, Fail>
     })
 }
 
+/// A segment at the start of a program of these words.
+fn segment(alloc: Global, words: &[u32], budget: u64) -> Result<Track, Fail>
+    ensures { IfOk result (λ t. RunsOver [] (view_of t)) }
+{
+    let start = start(alloc, words)?;
+    Ok(Track::begin(alloc, Kind::Segment, start, budget)?)
+}
+
 /// The original and the fast version of the program's region.
 fn versions(alloc: Global, words: &[u32], budget: u64) -> Result<(Track, Track), Fail>
     ensures normal { IfOk result (λ v. RunsOver [] (view_of v.0)) }
     ensures fast { IfOk result (λ v. RunsOver [] (view_of v.1)) }
     ensures start { IfOk result (λ v. (view_of v.0).start ≡ (view_of v.1).start) }
 {
-    tracks_run_over_inputs();
-    let mut track = Track::begin(alloc, Kind::Segment, start(alloc, words)?, budget)?;
-    if track.run(&[], 100)? != 1 {
+    let mut track = segment(alloc, words, budget)?;
+    if run(&mut track, 100)? != 1 {
         return Err(Fail::new("the region opens elsewhere"));
     }
     let Kind::Segment = track.kind() else {
@@ -139,7 +146,6 @@ fn go_on(track: &mut Track) -> Result<(u64, Held), Fail>
     requires { RunsOver [] (view_of track.old) }
     ensures { OnOk result (RunsOver [] (view_of track.new)) }
 {
-    tracks_run_over_inputs();
     let Kind::Normal = track.kind() else {
         return Err(Fail::new("no original"));
     };
@@ -154,7 +160,6 @@ fn cross(track: &mut Track) -> Result<Crossed, Fail>
     requires { RunsOver [] (view_of track.old) }
     ensures { OnOk result (RunsOver [] (view_of track.new)) }
 {
-    tracks_run_over_inputs();
     let Kind::Fast = track.kind() else {
         return Err(Fail::new("no fast version"));
     };
