@@ -209,8 +209,8 @@ module _ (input : List ℕ) where
           finished =
               h.finished
               ∙ ap₂ (λ (o : Option End) (n : ℕ). record { end = o; count = n })
-                (ap (λ (p : Point MachineState End). p.end) (sym (then-go (rv32 input) s t own here (left - own))) ∙ ap (λ n. (go (rv32 input) (fresh s) n).end) whole)
-                (omega (arith, then-taken (rv32 input) s t own here (left - own), ap (taken (rv32 input) (fresh s)) whole));
+              (ap (λ (p : Point MachineState End). p.end) (sym (then-go (rv32 input) s t own here (left - own))) ∙ ap (λ n. (go (rv32 input) (fresh s) n).end) whole)
+              (omega (arith, then-taken (rv32 input) s t own here (left - own), ap (taken (rv32 input) (fresh s)) whole));
         }
 
     passes-then : (row : Row) (v : TrackView) (budget : ℕ) → Passes input t (at + own) (left - own) number row v budget → Passes input s at left number row v budget

@@ -76,7 +76,7 @@ module _ (input : List ℕ) (first : MachineState) (budget at : ℕ) (rows : Lis
         rows_are =
             h.rows_are
             ∙ ap (λ rs. ledger_rows rows ++ rs) (p.rows ∙ ap (λ a. ledger_row row ∷ ledger_from (rv32 input) (budget - at - p.count) p.state (suc (length rows)) a) (sym p.behind)
-              ∙ ap₂ (λ l n. ledger_row row ∷ ledger_from (rv32 input) l p.state n (row.at + row.original)) left size)
+            ∙ ap₂ (λ l n. ledger_row row ∷ ledger_from (rv32 input) l p.state n (row.at + row.original)) left size)
             ∙ sym (append_assoc (ledger_rows rows) (ledger_row row ∷ []) _)
             ∙ ap (λ rs. rs ++ ledger_from (rv32 input) (budget - (row.at + row.original)) p.state (length (rows ++ row ∷ [])) (row.at + row.original)) (sym (ledger_rows-push rows row));
       })

@@ -34,4 +34,4 @@ returns c =
     let here = stands-boundary c.args.input.now t c.args.left (c.args.at + c.own.result) c.in_ok-reached.reached c.in_ok-reached.ensures.stands (sym c.in_default.ensures) in
     subst (λ s. Passes c.args.input.now s c.args.at c.args.left c.args.number c.in_ok-row.row (view_of c.go_on.new.self) (view_of c.args.track.now).budget) start
     (original-passes c.args.input.now t (view_of c.go_on.new.self) _ _ _ _ _ kind (call-at t.kind t.start kind (is_track c.reach.new.track).call) ran.way here c.in_ok-row.ensures
-      (c.in_ok-go_on.ensures.segment ∙ ap (λ (b : ℕ). begun Segment t.state b) budget))
+    (c.in_ok-go_on.ensures.segment ∙ ap (λ (b : ℕ). begun Segment t.state b) budget))

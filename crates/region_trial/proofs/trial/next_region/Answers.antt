@@ -35,8 +35,8 @@ returns-in-None c =
     (λ step. Steps c.args.input.now t.state (c.args.at + c.own-own.result) (c.args.left - c.own-own.result) c.args.number step new t.budget)
     (λ step. Steps c.args.input.now (view_of c.args.track.now).start c.args.at c.args.left c.args.number step new (view_of c.args.track.now).budget)
     (λ step h.
-      subst (λ s. Steps c.args.input.now s c.args.at c.args.left c.args.number step new (view_of c.args.track.now).budget) ran.start
-      (segment-steps c.args.input.now t c.args.at c.args.left c.args.number step new (view_of c.args.track.now).budget kind ran.way here
-        (subst (λ b. Steps c.args.input.now t.state (c.args.at + t.own) (c.args.left - t.own) c.args.number step new b) ran.budget
-          (subst (λ n. Steps c.args.input.now t.state (c.args.at + n) (c.args.left - n) c.args.number step new t.budget) c.own-own.ensures.own h))))
+    subst (λ s. Steps c.args.input.now s c.args.at c.args.left c.args.number step new (view_of c.args.track.now).budget) ran.start
+    (segment-steps c.args.input.now t c.args.at c.args.left c.args.number step new (view_of c.args.track.now).budget kind ran.way here
+    (subst (λ b. Steps c.args.input.now t.state (c.args.at + t.own) (c.args.left - t.own) c.args.number step new b) ran.budget
+    (subst (λ n. Steps c.args.input.now t.state (c.args.at + n) (c.args.left - n) c.args.number step new t.budget) c.own-own.ensures.own h))))
     c.pass_region.ensures

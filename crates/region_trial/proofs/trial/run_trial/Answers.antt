@@ -16,8 +16,8 @@ pub loop-rows-init : goal.loop-rows-init
 loop-rows-init c =
     subst (λ rows. SoFar c.args.input.now (start_of (image_of_loaded c.args.loaded.now)) c.args.budget 0 rows (view_of c.in_ok-track.track)) (sym c.new-rows.ensures.items)
     (so_far-first c.args.input.now _ c.args.budget _
-      (start-is-guest c.args.input.now c.args.loaded.now.entry c.args.loaded.now.areas c.args.loaded.now.heap c.args.loaded.now.layout)
-      (c.in_ok-track.ensures.begun ∙ ap (λ s. begun Segment s c.args.budget) c.in_ok-start.ensures))
+    (start-is-guest c.args.input.now c.args.loaded.now.entry c.args.loaded.now.areas c.args.loaded.now.heap c.args.loaded.now.layout)
+    (c.in_ok-track.ensures.begun ∙ ap (λ s. begun Segment s c.args.budget) c.in_ok-start.ensures))
 
 pub loop-rows-preserved : goal.loop-rows-preserved
 loop-rows-preserved c =
