@@ -1,0 +1,10 @@
+pub mod Value
+pub mod Parts
+pub mod Loans
+pub mod Settles
+pub mod Invariant
+pub mod DueTests
+pub mod Crossing
+pub mod Forking
+pub mod Discarding
+pub mod Releasing
