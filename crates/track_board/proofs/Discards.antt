@@ -1,15 +1,15 @@
 -- The fields of a board whose oldest region's fast version was given up.
-use Rattle.std.proofs.Common.{◌≡◌, ℕ, suc, ◌+◌, ◌*◌, ◌<◌, ◌≤◌, Bool, true, false, not, ◌&&◌, if◌then◌else◌, List, [], ◌∷◌, ◌++◌, Option, Some, None, is_some, option_map, unwrap_or, find, drop, length, map, set, slice_get, vec_len, vec_capacity, refl, sym, ap, ap₂, ◌∙◌, subst, arith}
-use Rattle.std.specs.Prelude.{All, AllPairs}
+use Rattle.std.proofs.Common.{◌≡◌, ℕ, suc, ◌+◌, ◌≤◌, Bool, true, false, not, ◌&&◌, if◌then◌else◌, List, [], ◌∷◌, ◌++◌, Option, Some, None, is_some, option_map, unwrap_or, find, drop, length, map, set, slice_get, vec_len, vec_capacity, refl, sym, ap, ap₂, ◌∙◌, subst, arith}
+use Rattle.std.specs.Prelude.{All}
 use Rattle.std.proofs.lemmas.List.{length-map}
 use Rattle.std.proofs.lemmas.List.Elements.{All-map}
-use Rattle.std.proofs.lemmas.Option.{same_Some, none-some}
+use Rattle.std.proofs.lemmas.Option.{same_Some}
 use Rattle.speculation.specs.declared.history.Entry.TheVariants as E
 use Rattle.speculation.specs.declared.tracks.Name.{Name}
 use Rattle.speculation.specs.declared.tracks.OpenLoan.{OpenLoan}
-use Rattle.speculation.specs.declared.tracks.Kind.TheVariants.{Normal, Segment}
+use Rattle.speculation.specs.declared.tracks.Kind.TheVariants.{Segment}
 use Rattle.speculation.specs.Run.{Mark, Piece, marks, marks_upto}
-use Rattle.speculation.specs.Core.{Track as CoreTrack, Region as CoreRegion, over, is_lent, is_named, at_home, lead_home, lead_name, track_point}
+use Rattle.speculation.specs.Core.{Track as CoreTrack, Region as CoreRegion, over, is_lent, is_named, lead_home, track_point}
 use Rattle.speculation.specs.Due.{Judgement as CoreJudgement}
 use Rattle.speculation.specs.Effects.{segment_of, dropped_by, drop_loan, drop_loans, dropped_core}
 use Rattle.guest_model.specs.MachineState.{MachineState}
@@ -20,7 +20,6 @@ use Rattle.region_ledger.specs.declared.row.Row.{Row}
 use Rattle.seniority_queue.specs.Listing.{LiveNode, Listing, has_key, get, keeping, first_key, through, with_value, IsLive, IsSound}
 use Rattle.seniority_queue.specs.declared.key.Key.{Key}
 use Rattle.seniority_queue.proofs.KeyLemmas.{has_key-own, get-of_place, with_value-of_place}
-use Rattle.speculation_law.specs.Sound.{one_if}
 use Rattle.speculation_law.proofs.Names.{is_lent-none, count_lent-drop_loans}
 use Rattle.speculation_law.proofs.Pieces.{marks_upto-all}
 use Rattle.track_state.specs.Views.{TrackView, view_of, core_track}
@@ -36,12 +35,12 @@ use Rattle.track_board.specs.declared.slot.Slot.TheVariants.{Home, Away}
 use Rattle.track_board.specs.Crossing.{SameHome}
 use Rattle.track_board.specs.Discarding.{SlotGoesOn, lent_dropped}
 use Rattle.track_board.specs.Value.{Posted, GuestCore, core_of, posted}
-use Rattle.track_board.specs.Parts.{TrackStands, SlotStands, RegionStands, RegionsStand, core_loan, core_loans, ready_marks, LoanFinds}
+use Rattle.track_board.specs.Parts.{SlotStands, RegionStands, RegionsStand, core_loan, core_loans, ready_marks, LoanFinds}
 use Rattle.track_board.specs.Settles.{IsDue, due_of}
 use Rattle.track_board.specs.Invariant.{view_of_board, home_at, StandsFor}
 use Rattle.track_board.proofs.Foundation.{core-seen, stands-sound, own-home, held-home, state-home}
 use Rattle.track_board.proofs.Finishes.{IsPushed, pushed-view, pushed-legal}
-use Rattle.track_board.proofs.Judged.{IsOldest, core_judgement, judges, regions-are, oldest, original, original-home, rows-are, discard-event}
+use Rattle.track_board.proofs.Judged.{IsOldest, core_judgement, judges, regions-are, oldest, original, rows-are, discard-event}
 use Rattle.track_board.proofs.Queues.{keeps-changed, loans-kept}
 use Rattle.track_board.proofs.ReadyMarks.{ready_marks-push}
 use Rattle.track_board.proofs.Spared.{one_if-bound, rows-count, slot-again, bounds}

@@ -1,6 +1,5 @@
 -- The fields of a board on which a region has opened.
-use Rattle.std.proofs.Common.{◌≡◌, ℕ, suc, ◌+◌, ◌-◌, ◌*◌, ◌<◌, ◌≤◌, Bool, true, false, not, List, [], ◌∷◌, ◌++◌, Option, Some, None, is_some, length, nat_eq, set, vec_len, vec_capacity, refl, sym, ap, ap₂, ◌∙◌, subst, append_assoc, append-nil, length-append, arith}
-use Rattle.speculation.specs.declared.history.Entry.{Entry}
+use Rattle.std.proofs.Common.{◌≡◌, ℕ, suc, ◌+◌, ◌≤◌, Bool, true, false, not, List, [], ◌∷◌, ◌++◌, Some, None, is_some, length, nat_eq, set, vec_len, vec_capacity, refl, sym, ap, ap₂, ◌∙◌, subst, length-append, arith}
 use Rattle.speculation.specs.declared.history.Entry.TheVariants as E
 use Rattle.speculation.specs.declared.tracks.Name.{Name}
 use Rattle.speculation.specs.declared.tracks.Kind.TheVariants.{Normal, Fast, Segment}
@@ -14,37 +13,33 @@ use Rattle.guest_model.specs.Rv32.{rv32}
 use Rattle.seniority_queue.specs.Listing.{LiveNode, Listing, get, IsLive, last_key, with_value, pushed, IsSound}
 use Rattle.seniority_queue.specs.declared.key.Key.{Key}
 use Rattle.seniority_queue.proofs.KeyLemmas.{get-of_place, with_value-of_place}
-use Rattle.speculation_law.specs.Sound.{one_if, Numbered}
+use Rattle.speculation_law.specs.Sound.{Numbered}
 use Rattle.speculation_law.proofs.Dues.{ForkingLead, due-forking, fork_test-true}
-use Rattle.speculation_law.proofs.Leading.{lead-within}
 use Rattle.speculation_law.proofs.Pieces.{marks_upto-all}
 use Rattle.speculation_law.proofs.SerialSteps.{event-entry_of}
-use Rattle.track_state.specs.Views.{TrackView, view_of, core_track, begun, stop_by}
+use Rattle.track_state.specs.Views.{TrackView, view_of, core_track, stop_by}
 use Rattle.track_state.specs.Runs.{RunsOver}
-use Rattle.track_state.specs.Transitions.{IsForked}
-use Rattle.track_state.specs.declared.track.Track.{Track}
 use Rattle.track_state.specs.declared.track.transitions.Forked.{Forked}
 use Rattle.track_state.proofs.OnTracks.{runs_from}
 use Rattle.track_board.specs.declared.board.Board.TheInside.{Inside}
 use Rattle.track_board.specs.declared.due.Due.TheVariants.{Fork}
-use Rattle.track_board.specs.declared.ready.Ready.{Ready}
 use Rattle.track_board.specs.declared.region.Between.{Between}
 use Rattle.track_board.specs.declared.region.FastVersion.TheVariants.{Open}
 use Rattle.track_board.specs.declared.region.Region.{Region}
 use Rattle.track_board.specs.declared.slot.Slot.{Slot}
 use Rattle.track_board.specs.declared.slot.Slot.TheVariants.{Home, Away}
 use Rattle.track_board.specs.Forking.{LeadOpens, LeadForked}
-use Rattle.track_board.specs.Value.{Posted, GuestCore, machine_of, core_of, run_of, posted}
-use Rattle.track_board.specs.Parts.{TrackStands, SlotStands, RegionStands, RegionsStand, core_between, ready_marks, LoanFinds}
+use Rattle.track_board.specs.Value.{Posted, GuestCore, core_of, posted}
+use Rattle.track_board.specs.Parts.{TrackStands, SlotStands, RegionStands, RegionsStand, core_between, ready_marks}
 use Rattle.track_board.specs.Settles.{IsDue, due_of, new_lead}
 use Rattle.track_board.specs.Invariant.{view_of_board, home_at, StandsFor}
 use Rattle.track_board.proofs.Foundation.{core-seen, stands-sound, kind-home, own-home, held-home, state-home, boundary-home}
 use Rattle.track_board.proofs.DueEvents.{is-fork}
 use Rattle.track_board.proofs.Finishes.{IsPushed, pushed-view, pushed-legal, due-stood}
 use Rattle.track_board.proofs.Homes.{new-home, beyond-last}
-use Rattle.track_board.proofs.Queues.{KeepsNumbers, keeps-then, keeps-behind, keeps-changed, loans-kept, IsYoungest, youngest, no_youngest, set-last}
+use Rattle.track_board.proofs.Queues.{KeepsNumbers, keeps-then, keeps-behind, keeps-changed, loans-kept, youngest, no_youngest, set-last}
 use Rattle.track_board.proofs.ReadyMarks.{ready_marks-push}
-use Rattle.track_board.proofs.Spared.{one_if-bound, regions-count, bounds}
+use Rattle.track_board.proofs.Spared.{one_if-bound}
 
 -- ---- regions
 

@@ -1,8 +1,8 @@
 -- Which tracks are at home.
-use Rattle.std.proofs.Common.{◌≡◌, ℕ, suc, ◌<◌, ◌≤◌, Bool, true, false, not, ◌&&◌, if◌then◌else◌, List, [], ◌∷◌, Option, Some, None, is_none, nat_eq, refl, sym, ap, ap₂, ◌∙◌, subst, arith}
+use Rattle.std.proofs.Common.{◌≡◌, suc, Bool, true, false, not, ◌&&◌, if◌then◌else◌, List, [], ◌∷◌, Some, None, is_none, refl, ap, ap₂, ◌∙◌, arith}
 use Rattle.speculation.specs.declared.tracks.Name.{Name}
 use Rattle.speculation.specs.declared.tracks.OpenLoan.{OpenLoan}
-use Rattle.speculation.specs.Core.{Core, Track, name_eq, is_lent, is_named, at_home, find_loan, find_normal, find_track}
+use Rattle.speculation.specs.Core.{Core, Track, name_eq, is_lent, is_named, at_home, find_loan}
 use Rattle.speculation_law.specs.Naming.{Distinct, IsLive, Named}
 use Rattle.speculation_law.proofs.Names.{FoundTrack, Original, Lead, find_track-found, name_eq-true}
 use Rattle.speculation_law.proofs.LiveTracks.{number-high}

@@ -1,16 +1,16 @@
 -- What a judgement that is due says of the fields: the oldest region's original is at home at its boundary.
-use Rattle.std.proofs.Common.{◌≡◌, ℕ, ◌+◌, ◌-◌, ◌<◌, ◌≤◌, Bool, true, false, List, [], ◌∷◌, ◌++◌, Option, Some, None, option_map, slice_get, length, map, nat_eq, vec_len, refl, sym, ap, ap₂, ◌∙◌, subst, arith}
+use Rattle.std.proofs.Common.{◌≡◌, ℕ, ◌+◌, ◌≤◌, Bool, true, false, List, [], ◌∷◌, ◌++◌, Some, None, option_map, slice_get, length, nat_eq, vec_len, refl, sym, ap, ap₂, ◌∙◌, subst, arith}
 use Rattle.std.proofs.lemmas.List.{map-append}
 use Rattle.std.proofs.lemmas.Option.{none-some, same_Some}
 use Rattle.speculation.specs.declared.history.Entry.TheVariants as E
 use Rattle.speculation.specs.declared.tracks.Kind.TheVariants.{Normal}
 use Rattle.speculation.specs.Verdicts.{Judged, Verdict as CoreVerdict, is_kept}
 use Rattle.speculation.specs.Ledger.{Row as CoreRow}
-use Rattle.speculation.specs.Core.{Track as CoreTrack, Region as CoreRegion, over, at_home, normal_name, at_boundary}
+use Rattle.speculation.specs.Core.{Track as CoreTrack, Region as CoreRegion, at_home, normal_name}
 use Rattle.speculation.specs.Due.{Judgement as CoreJudgement, Judging, due}
-use Rattle.speculation.specs.Effects.{row_of, kept_core, dropped_core, judged_core, effect}
+use Rattle.speculation.specs.Effects.{row_of, kept_core, dropped_core, judged_core}
 use Rattle.speculation.specs.Events.{event}
-use Rattle.speculation.specs.Serial.{row_entry, entry_of}
+use Rattle.speculation.specs.Serial.{row_entry}
 use Rattle.guest_model.specs.MachineState.{MachineState}
 use Rattle.guest_model.specs.Rv32.{rv32}
 use Rattle.guest_model.specs.declared.difference.Difference.{Difference}
@@ -23,7 +23,7 @@ use Rattle.speculation_law.proofs.Dues.{IsJudged, due-judging, verdict_due-some}
 use Rattle.speculation_law.proofs.Events.{Judges, judges-due}
 use Rattle.speculation_law.proofs.Naming.{front-home_at}
 use Rattle.speculation_law.proofs.SerialSteps.{event-entry_of}
-use Rattle.track_state.specs.Views.{TrackView, view_of, stop_by}
+use Rattle.track_state.specs.Views.{view_of, stop_by}
 use Rattle.track_state.specs.Transitions.{IsAtBoundary}
 use Rattle.track_state.specs.declared.track.Track.{Track}
 use Rattle.track_board.specs.declared.board.Board.TheInside.{Inside}
@@ -33,7 +33,7 @@ use Rattle.track_board.specs.declared.region.Region.{Region}
 use Rattle.track_board.specs.declared.slot.Slot.{Slot}
 use Rattle.track_board.specs.declared.slot.Slot.TheVariants.{Home, Away}
 use Rattle.track_board.specs.Discarding.{OriginalCloses}
-use Rattle.track_board.specs.Value.{Posted, GuestCore, machine_of, start_state}
+use Rattle.track_board.specs.Value.{Posted, GuestCore, start_state}
 use Rattle.track_board.specs.Parts.{TrackStands, SlotStands, RegionStands, RegionsStand}
 use Rattle.track_board.specs.Settles.{IsDue, due_of}
 use Rattle.track_board.specs.Invariant.{view_of_board, home_at, StandsFor}

@@ -1,5 +1,5 @@
 -- The fields of a board whose oldest region's fast version was kept.
-use Rattle.std.proofs.Common.{◌≡◌, ℕ, ◌+◌, ◌-◌, ◌*◌, ◌<◌, ◌≤◌, Bool, true, false, not, ◌&&◌, if◌then◌else◌, List, [], ◌∷◌, ◌++◌, Option, Some, None, option_map, find, drop, length, append-nil, vec_len, vec_capacity, refl, sym, ap, ap₂, ◌∙◌, subst, append_assoc, length-append, inl, inr, arith}
+use Rattle.std.proofs.Common.{◌≡◌, ℕ, ◌+◌, ◌-◌, ◌≤◌, Bool, true, false, not, ◌&&◌, if◌then◌else◌, List, [], ◌∷◌, ◌++◌, Option, Some, None, option_map, find, drop, length, append-nil, vec_len, vec_capacity, refl, sym, ap, ap₂, ◌∙◌, subst, append_assoc, inl, inr, arith}
 use Rattle.std.specs.Prelude.{All, is_none}
 use Rattle.std.specs.List.{AllByRecursion}
 use Rattle.std.proofs.lemmas.Bool.{cases_Bool}
@@ -9,7 +9,7 @@ use Rattle.speculation.specs.declared.history.Entry.TheVariants as E
 use Rattle.speculation.specs.declared.tracks.Name.{Name}
 use Rattle.speculation.specs.declared.tracks.OpenLoan.{OpenLoan}
 use Rattle.speculation.specs.Run.{Mark, Piece, marks, marks_upto}
-use Rattle.speculation.specs.Core.{Between as CoreBetween, Region as CoreRegion, over, name_eq, is_lent, at_home, normal_name}
+use Rattle.speculation.specs.Core.{Between as CoreBetween, Region as CoreRegion, over, name_eq, is_lent, normal_name}
 use Rattle.speculation.specs.Due.{Judgement as CoreJudgement}
 use Rattle.speculation.specs.Effects.{between_steps, between_marks, kept_core}
 use Rattle.guest_model.specs.MachineState.{MachineState}
@@ -17,10 +17,8 @@ use Rattle.guest_model.specs.Rv32.{rv32}
 use Rattle.guest_model.specs.declared.difference.Difference.{Difference}
 use Rattle.region_ledger.specs.Ledger.{is_kept, judged, ledger_row, ledger_rows}
 use Rattle.region_ledger.specs.declared.row.Row.{Row}
-use Rattle.seniority_queue.specs.Listing.{LiveNode, Listing, has_key, get, keeping}
-use Rattle.seniority_queue.specs.declared.key.Key.{Key}
+use Rattle.seniority_queue.specs.Listing.{LiveNode, Listing, has_key, keeping}
 use Rattle.speculation_law.specs.Naming.{RegionsWithin}
-use Rattle.speculation_law.specs.Sound.{one_if}
 use Rattle.speculation_law.proofs.LiveTracks.{home-apart}
 use Rattle.speculation_law.proofs.Names.{name_eq-refl, name_eq-same}
 use Rattle.speculation_law.proofs.Naming.{live-generation}
@@ -34,7 +32,7 @@ use Rattle.track_board.specs.declared.ready.Ready.{Ready}
 use Rattle.track_board.specs.declared.region.Between.{Between}
 use Rattle.track_board.specs.declared.region.Region.{Region}
 use Rattle.track_board.specs.Value.{Posted, GuestCore, core_of, posted}
-use Rattle.track_board.specs.Parts.{RegionsStand, core_between, core_loan, core_loans, ready_marks, KeyFinds, LoanFinds}
+use Rattle.track_board.specs.Parts.{RegionsStand, core_between, core_loan, core_loans, ready_marks, LoanFinds}
 use Rattle.track_board.specs.Settles.{IsDue, due_of}
 use Rattle.track_board.specs.Invariant.{view_of_board, home_at, StandsFor}
 use Rattle.track_board.proofs.Foundation.{core-seen, stands-sound, held-home}

@@ -21,3 +21,6 @@ pub mod Discards
 pub mod Rising
 pub mod Releases
 pub mod ReturnedNormal
+pub mod Walks
+pub mod LendTests
+pub mod Lends

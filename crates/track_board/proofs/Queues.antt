@@ -1,12 +1,12 @@
 -- Regions that stay in the queue are found by their keys, whatever is put in behind them or changes in one of them.
-use Rattle.std.proofs.Common.{◌≡◌, ℕ, zero, suc, Bool, true, false, if◌then◌else◌, List, [], ◌∷◌, ◌++◌, Option, Some, None, length, slice_get, find, option_map, set, refl, sym, ap, ◌∙◌, inl, inr}
+use Rattle.std.proofs.Common.{◌≡◌, ℕ, zero, suc, true, false, List, [], ◌∷◌, ◌++◌, Some, None, length, slice_get, find, option_map, set, refl, sym, ap, ◌∙◌, inl, inr}
 use Rattle.std.specs.Prelude.{All}
 use Rattle.std.proofs.lemmas.Bool.{cases_Bool}
 use Rattle.std.proofs.lemmas.Option.{none-some, same_Some}
 use Rattle.std.proofs.lemmas.List.Elements.{All-weaker}
 use Rattle.seniority_queue.specs.Listing.{LiveNode, Listing, has_key, get, last_key}
 use Rattle.seniority_queue.specs.declared.key.Key.{Key}
-use Rattle.track_board.specs.Parts.{KeyFinds, LoanFinds}
+use Rattle.track_board.specs.Parts.{LoanFinds}
 use Rattle.track_board.specs.declared.region.Region.{Region}
 use Rattle.track_board.specs.declared.loan.Lent.{Lent}
 

@@ -1,11 +1,11 @@
 -- The fields of a board whose verified bytes were handed out.
-use Rattle.std.proofs.Common.{◌≡◌, ℕ, ◌+◌, ◌-◌, ◌*◌, ◌^◌, ◌<◌, ◌≤◌, min, Bool, true, false, not, ◌&&◌, ◌==◌, if◌then◌else◌, List, [], ◌∷◌, ◌++◌, Option, Some, None, length, nat_eq, nat_lt, set, slice_get, vec_len, vec_capacity, refl, sym, ap, ap₂, ◌∙◌, subst, length-append, eq-eqb, eqb-true, arith}
+use Rattle.std.proofs.Common.{◌≡◌, ℕ, ◌+◌, ◌-◌, ◌^◌, ◌<◌, ◌≤◌, min, Bool, true, false, not, ◌==◌, if◌then◌else◌, List, [], ◌∷◌, ◌++◌, Some, None, length, nat_eq, nat_lt, set, slice_get, vec_len, vec_capacity, refl, sym, ap, ap₂, ◌∙◌, subst, length-append, eq-eqb, eqb-true, arith}
 use Rattle.std.proofs.lemmas.Bool.{and_from, lt-ltb}
 use Rattle.std.proofs.lemmas.Option.{same_Some}
 use Rattle.speculation.specs.declared.history.Entry.TheVariants as E
 use Rattle.speculation.specs.declared.history.Settings.{Settings}
-use Rattle.speculation.specs.Run.{Mark, Piece, marks_upto}
-use Rattle.speculation.specs.Core.{Track as CoreTrack, Region as CoreRegion, over, at_home, lead_home, front, front_of, front_name, front_home, verified}
+use Rattle.speculation.specs.Run.{Mark, marks_upto}
+use Rattle.speculation.specs.Core.{Track as CoreTrack, Region as CoreRegion, over, at_home, lead_home, front, front_name, front_home, verified}
 use Rattle.speculation.specs.Events.{left_over, released_regions, released_lead, released_by, released_core, some_if, event}
 use Rattle.guest_model.specs.MachineState.{MachineState}
 use Rattle.guest_model.specs.Rv32.{rv32}
@@ -13,7 +13,6 @@ use Rattle.rv32_law.proofs.OutputBounds.{history-bound}
 use Rattle.seniority_queue.specs.Listing.{LiveNode, Listing, first_key, get, with_value, IsSound}
 use Rattle.seniority_queue.specs.declared.key.Key.{Key}
 use Rattle.seniority_queue.proofs.KeyLemmas.{get-of_place, with_value-of_place}
-use Rattle.speculation_law.specs.Sound.{one_if}
 use Rattle.track_state.specs.Views.{TrackView, view_of, core_track}
 use Rattle.track_state.specs.Runs.{RunsOver}
 use Rattle.track_state.proofs.OnTracks.{runs_left}
@@ -24,10 +23,10 @@ use Rattle.track_board.specs.declared.slot.Slot.{Slot}
 use Rattle.track_board.specs.declared.slot.Slot.TheVariants.{Home, Away}
 use Rattle.track_board.specs.DueTests.{front_slot}
 use Rattle.track_board.specs.Releasing.{slot_marks, IsLeftOver, FrontIsLeftOver}
-use Rattle.track_board.specs.Value.{Posted, GuestCore, machine_of, start_state, core_of, run_of, posted}
-use Rattle.track_board.specs.Parts.{TrackStands, SlotStands, RegionStands, RegionsStand, ready_marks}
+use Rattle.track_board.specs.Value.{Posted, GuestCore, start_state, run_of, posted}
+use Rattle.track_board.specs.Parts.{SlotStands, RegionStands, RegionsStand, ready_marks}
 use Rattle.track_board.specs.Settles.{verified_of, released_with}
-use Rattle.track_board.specs.Invariant.{view_of_board, home_at, FieldsStand, StandsFor}
+use Rattle.track_board.specs.Invariant.{view_of_board, home_at, StandsFor}
 use Rattle.track_board.proofs.DueTests.{front-slot}
 use Rattle.track_board.proofs.Finishes.{IsPushed, pushed-view, pushed-legal}
 use Rattle.track_board.proofs.Foundation.{core-seen, held-home}

@@ -1,8 +1,8 @@
 -- Room that was made, and a track that contracts see as before, leave what the fields stand for.
 use Rattle.std.proofs.lemmas.List.{length-map}
-use Rattle.std.proofs.Common.{◌≡◌, ℕ, ◌+◌, ◌*◌, ◌≤◌, Bool, true, false, not, List, [], ◌∷◌, Some, length, suc, ◌^◌, vec_len, vec_capacity, refl, sym, ap, ◌∙◌, subst, arith}
+use Rattle.std.proofs.Common.{◌≡◌, ℕ, ◌≤◌, Bool, true, false, List, [], ◌∷◌, length, suc, ◌^◌, vec_len, vec_capacity, refl, sym, ap, ◌∙◌, subst, arith}
 use Rattle.speculation.specs.declared.history.Entry.{Entry}
-use Rattle.speculation.specs.Core.{Track as CoreTrack, Region as CoreRegion, over, lead_home}
+use Rattle.speculation.specs.Core.{Track as CoreTrack, Region as CoreRegion, lead_home}
 use Rattle.guest_model.specs.MachineState.{MachineState}
 use Rattle.region_ledger.specs.Ledger.{ledger_row, ledger_rows}
 use Rattle.seniority_queue.specs.Listing.{LiveNode}

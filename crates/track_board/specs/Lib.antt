@@ -8,3 +8,5 @@ pub mod Crossing
 pub mod Forking
 pub mod Discarding
 pub mod Releasing
+pub mod LendTests
+pub mod Lends

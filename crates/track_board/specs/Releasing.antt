@@ -1,5 +1,5 @@
 -- What the front holds of the verified output, and what it keeps of its pieces
-use Rattle.std.specs.Prelude.{◌≡◌, ℕ, List, [], ◌∷◌, ◌++◌}
+use Rattle.std.specs.Prelude.{◌≡◌, ℕ, List, [], ◌∷◌}
 use Rattle.speculation.specs.Run.{Mark, marks_upto}
 use Rattle.speculation.specs.Events.{left_over}
 use Rattle.seniority_queue.specs.Listing.{LiveNode}

@@ -12,6 +12,7 @@ mod forking;
 mod judging;
 mod keeping;
 pub mod laws;
+mod lendable;
 mod lending;
 mod lent;
 mod loan;

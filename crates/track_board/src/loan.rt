@@ -65,6 +65,7 @@ impl Loan {
     /// # Errors
     /// `NoMemory` where a page or a piece of output found no room; the track then stands after some whole instructions and may be
     /// run again.
+    #[tactic(auto, unfolding(speculation::specs::Core::most_slice))]
     pub fn run(&mut self) -> Result<u64, NoMemory>
         requires { RunsOver self.old.input.value (view_of self.old.track) }
         ensures name { self.new.name ≡ self.old.name }

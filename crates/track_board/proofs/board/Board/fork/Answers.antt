@@ -1,9 +1,8 @@
-use Rattle.std.proofs.Common.{◌≡◌, ◌+◌, ◌≤◌, ◌<◌, Some, None, List, length, vec_len, vec_capacity, max, refl, sym, ap, ◌∙◌, arith}
+use Rattle.std.proofs.Common.{◌≡◌, ◌+◌, List, refl, ap, ◌∙◌, arith}
 use Rattle.speculation.specs.declared.history.Entry.{Entry}
 use Rattle.seniority_queue.specs.Listing.{Listing}
 use Rattle.track_board.specs.declared.board.Board.TheInside.{Inside}
 use Rattle.track_board.specs.declared.region.Region.{Region}
-use Rattle.track_board.specs.Value.{Posted}
 use Rattle.track_board.specs.Invariant.{view_of_board}
 use Rattle.track_board.proofs.Spared.{spared, lead-again, bounds}
 use Rattle.track_board.proofs.Forks.{fork-opens, fork-steps, fork-view, opens-first, opens-behind, youngest-live, set-same}

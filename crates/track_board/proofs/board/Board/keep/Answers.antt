@@ -1,18 +1,15 @@
-use Rattle.std.proofs.Common.{◌≡◌, ℕ, ◌+◌, ◌-◌, ◌≤◌, ◌++◌, List, [], ◌∷◌, Some, None, option_map, slice_get, length, vec_len, vec_capacity, drop, refl, sym, ap, ◌∙◌, subst, arith}
+use Rattle.std.proofs.Common.{◌≡◌, ℕ, ◌+◌, ◌++◌, List, [], ◌∷◌, Some, None, refl, sym, ap, ◌∙◌, arith}
 use Rattle.speculation.specs.declared.history.Entry.{Entry}
 use Rattle.speculation.specs.declared.history.Entry.TheVariants as E
-use Rattle.seniority_queue.specs.Listing.{LiveNode, Listing}
+use Rattle.seniority_queue.specs.Listing.{Listing}
 use Rattle.track_state.specs.Views.{view_of}
 use Rattle.track_state.specs.declared.track.Track.{Track}
 use Rattle.track_board.specs.declared.board.Board.TheInside.{Inside}
-use Rattle.track_board.specs.declared.region.Between.{Between}
 use Rattle.track_board.specs.declared.region.Region.{Region}
-use Rattle.std.specs.Prelude.{Option}
-use Rattle.track_board.specs.Value.{Posted}
 use Rattle.track_board.specs.Invariant.{view_of_board}
 use Rattle.track_board.proofs.Judged.{oldest-is, oldest-some, original, original-is, original-away, original-within, row-made, oldest}
 use Rattle.track_board.proofs.Keeps.{keep-view, keeps-alone, keeps-both, segment-within, popped-nodes}
-use Rattle.track_board.proofs.Spared.{spared, bounds}
+use Rattle.track_board.proofs.Spared.{spared}
 use Rattle.track_board.proofs.board.Board.keep.Goals as goal
 
 pub unreachable-requires : goal.unreachable-requires

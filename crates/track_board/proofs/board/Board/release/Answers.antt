@@ -1,9 +1,9 @@
-use Rattle.std.proofs.Common.{◌≡◌, ℕ, ◌+◌, ◌≤◌, List, length, vec_len, vec_capacity, refl, sym, ap, ◌∙◌, subst, arith}
+use Rattle.std.proofs.Common.{◌≡◌, ℕ, List, refl, sym, ap, ◌∙◌, subst, arith}
 use Rattle.speculation.specs.declared.history.Entry.{Entry}
 use Rattle.speculation.specs.declared.history.Entry.TheVariants as E
 use Rattle.track_board.specs.declared.board.Board.TheInside.{Inside}
 use Rattle.track_board.specs.Releasing.{FrontIsLeftOver}
-use Rattle.track_board.specs.Value.{Posted, IsKnown, posted}
+use Rattle.track_board.specs.Value.{posted}
 use Rattle.track_board.specs.Invariant.{view_of_board}
 use Rattle.track_board.proofs.Foundation.{known, known-seen}
 use Rattle.track_board.proofs.Releases.{copied, counted, some-bytes, released-none, released-some, release-stands, release-view}
