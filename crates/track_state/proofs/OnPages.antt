@@ -7,15 +7,13 @@ use Rattle.guest_model.specs.Rv32.{rv32}
 use Rattle.guest_model.specs.Step.{at_fast}
 use Rattle.guest_model.specs.declared.end.End.{End}
 use Rattle.rv32_law.proofs.Keeping.{SharesLayout-refl}
-use Rattle.track_state.specs.declared.stop.Stop.{Stop}
 use Rattle.track_state.specs.declared.stop.Stop.TheVariants.{Boundary}
 use Rattle.track_state.specs.Views.{TrackView, stop_by, is_at_boundary}
 use Rattle.track_state.specs.Transitions.{IsAtBoundary}
-use Rattle.guest_model.specs.ByteMap.{ByteMap, Keeps}
 use Rattle.guest_model.specs.MachineState.{MachineState}
 use Rattle.guest_model.specs.declared.state.State.{State}
 use Rattle.paged_image.specs.WriteSet.{has}
-use Rattle.paged_image.specs.Image.{content, written_of}
+use Rattle.paged_image.specs.Image.{written_of}
 use Rattle.paged_image.specs.declared.image.PagedImage.{PagedImage}
 use Rattle.rv32_law.specs.GuestStates.{SharesLayout}
 use Rattle.track_state.specs.Kept.{flat_state, KeepsStart}

@@ -1,8 +1,8 @@
 -- A run on its way: where it stands after n instructions, what it holds, and that it isn't over before.
-use Rattle.std.proofs.Common.{◌≡◌, ℕ, zero, suc, ◌+◌, ◌<◌, ◌≤◌, Bool, true, false, ◌||◌, List, [], ◌∷◌, ◌++◌, length, Option, Some, None, is_some, nat_le, refl, sym, ap, ap₂, ◌∙◌, subst, inl, inr, append_assoc, append-nil, add-one, arith}
+use Rattle.std.proofs.Common.{◌≡◌, ℕ, suc, ◌+◌, ◌<◌, ◌≤◌, Bool, true, false, ◌||◌, List, [], ◌∷◌, ◌++◌, length, Some, None, is_some, nat_le, refl, sym, ap, ap₂, ◌∙◌, subst, inl, inr, append_assoc, append-nil, add-one, arith}
 use Rattle.std.specs.List.{All}
 use Rattle.std.proofs.lemmas.Bool.{cases_lt, leb-false, lt-leb}
-use Rattle.std.proofs.lemmas.List.Elements.{All-append, All-cons, All-nil, All-weaker}
+use Rattle.std.proofs.lemmas.List.Elements.{All-append, All-cons, All-nil}
 use Rattle.speculation.specs.declared.tracks.Kind.{Kind}
 use Rattle.speculation.specs.declared.tracks.Kind.TheVariants.{Normal, Fast, Segment}
 use Rattle.speculation.specs.Machine.{Next, Ends}
@@ -14,7 +14,7 @@ use Rattle.guest_model.specs.Service.{Outcome}
 use Rattle.guest_model.specs.Step.{step}
 use Rattle.guest_model.specs.Rv32.{rv32}
 use Rattle.guest_model.specs.declared.end.End.{End}
-use Rattle.track_state.specs.Progress.{halts, kept_pieces, held_piece, is_over, Pauses, IsProgress}
+use Rattle.track_state.specs.Progress.{halts, kept_pieces, held_piece, is_over, IsProgress}
 
 -- what a track of this kind holds of an instruction with this number and outcome
 abbrev kept_of : Kind → ℕ → Outcome → List Piece

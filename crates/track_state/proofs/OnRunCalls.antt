@@ -1,21 +1,18 @@
 -- What a call of a track's `run` does, by whether the opening call was answered
-use Rattle.std.proofs.Common.{◌≡◌, ◌≢◌, ℕ, ◌+◌, ◌-◌, ◌<◌, ◌≤◌, min, Bool, true, false, List, length, Option, Some, None, is_some, nat_le, ◌⊎◌, refl, sym, ap, ◌∙◌, subst, inl, inr, arith}
+use Rattle.std.proofs.Common.{◌≡◌, ℕ, ◌+◌, ◌-◌, ◌<◌, ◌≤◌, min, true, false, List, None, is_some, sym, ap, ◌∙◌, subst, inl, inr, arith}
 use Rattle.std.proofs.lemmas.Bool.{le-leb}
-use Rattle.speculation.specs.declared.tracks.Kind.{Kind}
 use Rattle.speculation.specs.Run.{Piece}
 use Rattle.speculation.specs.Core.{held_size, most_held}
 use Rattle.guest_model.specs.Registers.{RegFile}
 use Rattle.guest_model.specs.MachineState.{MachineState}
-use Rattle.guest_model.specs.Rv32.{rv32, answer_one}
-use Rattle.guest_model.specs.declared.end.End.{End}
 use Rattle.track_state.specs.Kept.{StartsAtCall}
-use Rattle.track_state.specs.Opening.{HasOpened, HasNotOpened, Opens}
+use Rattle.track_state.specs.Opening.{Opens}
 use Rattle.track_state.specs.Views.{TrackView}
-use Rattle.track_state.specs.Runs.{RunsOver, rests_after, run_length, RanOn}
+use Rattle.track_state.specs.Runs.{RunsOver, run_length, RanOn}
 use Rattle.track_state.specs.Progress.{Pauses, IsProgress}
 use Rattle.track_state.specs.declared.progress.Progress.{Progress}
 use Rattle.track_state.proofs.OnRuns.{Starts, rests-full, rests-end, length-rests, ran-length}
-use Rattle.track_state.proofs.OnStarts.{starts-here, starts-opened, ran-none, now-at, ran-on}
+use Rattle.track_state.proofs.OnStarts.{starts-here, starts-opened, ran-none, now-at}
 
 -- the state behind the opening call, if it was answered
 abbrev pub with_regs : MachineState → RegFile → MachineState

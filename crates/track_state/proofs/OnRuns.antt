@@ -1,21 +1,20 @@
 -- A track that was run on: the parts of the run put together
-use Rattle.std.proofs.Common.{◌≡◌, ◌≢◌, ℕ, zero, suc, ◌+◌, ◌-◌, ◌<◌, ◌≤◌, min, Bool, true, false, ◌&&◌, ◌||◌, List, [], ◌++◌, length, Option, Some, None, is_some, unwrap_or, nat_eq, nat_lt, nat_le, ◌⊎◌, refl, sym, ap, ap₂, ◌∙◌, subst, inl, inr, append_assoc, append-nil, add-zero, add-suc, arith}
-use Rattle.std.proofs.lemmas.Bool.{cases_lt, leb-true, eq-eqb, ne_eqb, lt-ltb, lt-leb, le-leb, or_parts}
+use Rattle.std.proofs.Common.{◌≡◌, ◌≢◌, ℕ, zero, suc, ◌+◌, ◌-◌, ◌<◌, ◌≤◌, min, Bool, true, false, ◌&&◌, ◌||◌, List, [], ◌++◌, Option, Some, None, is_some, unwrap_or, nat_eq, nat_lt, nat_le, ◌⊎◌, refl, sym, ap, ap₂, ◌∙◌, subst, inl, inr, arith}
+use Rattle.std.proofs.lemmas.Bool.{cases_lt, eq-eqb, ne_eqb, lt-ltb, or_parts}
 use Rattle.speculation.specs.declared.tracks.Kind.{Kind}
 use Rattle.speculation.specs.declared.tracks.Kind.TheVariants.{Normal, Fast, Segment}
-use Rattle.speculation.specs.Machine.{Machine}
 use Rattle.speculation.specs.Run.{Point, Piece, fresh, go, pieces}
-use Rattle.speculation.specs.Tracks.{point, meets, first_from}
+use Rattle.speculation.specs.Tracks.{point, meets}
 use Rattle.speculation.specs.Core.{held_size, most_held}
-use Rattle.speculation.specs.Events.{new_pieces, run_on}
-use Rattle.speculation.proofs.Runs.{go-add, pieces-add}
+use Rattle.speculation.specs.Events.{new_pieces}
+use Rattle.speculation.proofs.Runs.{pieces-add}
 use Rattle.speculation_law.proofs.Least.{first-some, first-none}
 use Rattle.guest_model.specs.MachineState.{MachineState}
-use Rattle.guest_model.specs.Step.{at_fast, at_end}
-use Rattle.guest_model.specs.Rv32.{rv32, answer_one}
+use Rattle.guest_model.specs.Step.{at_end}
+use Rattle.guest_model.specs.Rv32.{rv32}
 use Rattle.guest_model.specs.declared.end.End.{End}
-use Rattle.track_state.specs.Views.{TrackView, core_track}
-use Rattle.track_state.specs.Runs.{IsLast, RunsOver, rests_after, run_length, RanOn}
+use Rattle.track_state.specs.Views.{TrackView}
+use Rattle.track_state.specs.Runs.{rests_after, run_length}
 use Rattle.track_state.specs.Progress.{halts, kept_pieces, is_over, IsProgress}
 use Rattle.track_state.specs.declared.progress.Progress.{Progress}
 

@@ -2,7 +2,7 @@
 use Rattle.std.proofs.Common.{◌≡◌, ◌≢◌, ℕ, zero, suc, ◌+◌, ◌-◌, ◌<◌, ◌≤◌, Bool, true, false, ◌&&◌, ◌||◌, ◌==◌, List, [], ◌∷◌, ◌++◌, length, Option, Some, None, is_some, nat_le, refl, sym, ap, ap₂, ◌∙◌, subst, append_assoc, append-nil, arith}
 use Rattle.std.specs.List.{All}
 use Rattle.std.specs.Int.{w32}
-use Rattle.std.proofs.lemmas.Bool.{and_parts, eqb-true, ne_eqb, lt-leb, or_parts}
+use Rattle.std.proofs.lemmas.Bool.{and_parts, eqb-true, ne_eqb, lt-leb}
 use Rattle.std.proofs.lemmas.List.Elements.{All-append, All-cons, All-nil}
 use Rattle.speculation.specs.declared.tracks.Kind.{Kind}
 use Rattle.speculation.specs.declared.tracks.Kind.TheVariants.{Normal, Fast, Segment}
@@ -22,9 +22,9 @@ use Rattle.guest_model.specs.declared.end.End.{End}
 use Rattle.track_state.specs.Kept.{StartsAtCall}
 use Rattle.track_state.specs.Views.{TrackView}
 use Rattle.track_state.specs.Runs.{IsLast, RunsOver, rests_after, RanOn}
-use Rattle.track_state.specs.Progress.{halts, kept_pieces, is_over, IsProgress}
+use Rattle.track_state.specs.Progress.{halts, kept_pieces, IsProgress}
 use Rattle.track_state.specs.declared.progress.Progress.{Progress}
-use Rattle.track_state.proofs.OnRuns.{rests_of, new_pieces-none, new_pieces-more, rests-at, rests-not, IsOutside, Starts, ran-at, ran-holds}
+use Rattle.track_state.proofs.OnRuns.{rests_of, new_pieces-none, new_pieces-more, rests-at, rests-not, Starts, ran-at, ran-holds}
 
 -- a state at the opening call isn't at the closing one
 pub opening-not_closing : (s : MachineState) → at_fast s ≡ true → at_end s ≡ false

@@ -1,14 +1,14 @@
 -- What holds of all tracks
-use Rattle.std.proofs.Common.{◌≡◌, ℕ, ◌+◌, ◌<◌, ◌≤◌, Bool, true, false, ◌||◌, cond, List, [], ◌∷◌, ◌++◌, length, Option, Some, None, is_some, unwrap_or, nat_eq, nat_le, suc, refl, sym, ap, ◌∙◌, subst, append_assoc, append-nil, arith}
+use Rattle.std.proofs.Common.{◌≡◌, ℕ, ◌<◌, ◌≤◌, Bool, true, false, cond, List, [], ◌∷◌, ◌++◌, length, Option, Some, None, unwrap_or, nat_le, suc, refl, sym, ap, ◌∙◌, append_assoc, arith}
 use Rattle.std.specs.List.{All}
 use Rattle.std.proofs.lemmas.Bool.{lt-leb, leb-false}
 use Rattle.speculation.specs.declared.tracks.Kind.{Kind}
 use Rattle.speculation.specs.declared.tracks.Kind.TheVariants.{Normal, Fast, Segment}
 use Rattle.speculation.specs.declared.history.Settings.{Settings}
-use Rattle.speculation.specs.Run.{Point, Piece, fresh, go}
-use Rattle.speculation.specs.Tracks.{point, meets, first_from}
-use Rattle.speculation.specs.Core.{at_boundary, held_size, most_held, most_slice}
-use Rattle.speculation.specs.Events.{new_pieces, left_over, slice}
+use Rattle.speculation.specs.Run.{Point, Piece}
+use Rattle.speculation.specs.Tracks.{meets, first_from}
+use Rattle.speculation.specs.Core.{at_boundary, most_slice}
+use Rattle.speculation.specs.Events.{left_over, slice}
 use Rattle.guest_model.specs.MachineState.{MachineState}
 use Rattle.guest_model.specs.Rv32.{rv32}
 use Rattle.guest_model.specs.declared.end.End.{End}

@@ -5,15 +5,14 @@ use Rattle.std.proofs.lemmas.List.{set-get_or}
 use Rattle.std.specs.Int.{w32}
 use Rattle.speculation.specs.Machine.{Next, Ends}
 use Rattle.guest_model.specs.ByteMap.{mapped, bytes_from, load}
-use Rattle.guest_model.specs.Registers.{RegFile, IsRegFile, reg, with_pc, with_reg, with_result, next}
+use Rattle.guest_model.specs.Registers.{RegFile, IsRegFile, reg, with_pc, with_result, next}
 use Rattle.guest_model.specs.MachineState.{MachineState}
-use Rattle.guest_model.specs.Effect.{store_len, store_effect, regs_effect, with_regs, address}
+use Rattle.guest_model.specs.Effect.{store_effect, regs_effect, with_regs, address}
 use Rattle.guest_model.specs.InstructionTable.{instr}
 use Rattle.guest_model.specs.Service.{Outcome, answer, cut, input_bytes, read_outcome, read_service, write_service, brk_service, is_in_heap, service_of, service, bad_address, bad_descriptor, no_such_service}
 use Rattle.guest_model.specs.Step.{after_effect, step_instr, step_row, step_word, step}
 use Rattle.guest_model.specs.declared.end.End.TheVariants.{Exit}
 use Rattle.guest_model.specs.declared.end.Trap.{Trap}
-use Rattle.guest_model.specs.declared.end.Trap.TheVariants.{StoreUnmapped}
 use Rattle.guest_model.specs.declared.instr.Instr.{Instr}
 use Rattle.guest_model.specs.declared.instr.Instr.TheVariants.{Upper, Jal, Jalr, Branch, Load, Store, OpImm, Op, Fence, Ecall, Ebreak}
 use Rattle.track_state.specs.Progress.{undone}

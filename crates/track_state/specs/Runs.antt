@@ -1,13 +1,11 @@
 -- Tracks that run over an input
-use Rattle.std.specs.Prelude.{◌≡◌, ℕ, suc, ◌≤◌, Bool, ◌||◌, List, ◌++◌, length, Option, Some, None, is_some, unwrap_or, nat_eq, nat_le}
-use Rattle.speculation.specs.Machine.{Machine}
-use Rattle.speculation.specs.Run.{Piece, Point}
+use Rattle.std.specs.Prelude.{◌≡◌, ℕ, suc, ◌≤◌, Bool, ◌||◌, List, ◌++◌, length, Some, None, is_some, unwrap_or, nat_eq, nat_le}
+use Rattle.speculation.specs.Run.{Piece}
 use Rattle.speculation.specs.Tracks.{point, first_from}
 use Rattle.speculation.specs.Core.{Track as CoreTrack, track_point, at_boundary, held_size, most_held}
 use Rattle.speculation.specs.Events.{new_pieces, run_on}
 use Rattle.guest_model.specs.MachineState.{MachineState}
 use Rattle.guest_model.specs.Rv32.{rv32}
-use Rattle.guest_model.specs.declared.difference.Difference.{Difference}
 use Rattle.guest_model.specs.declared.end.End.{End}
 use Rattle.track_state.specs.Views.{TrackView, core_track}
 

@@ -38,6 +38,7 @@ pub struct Progress {
 /// the call at which a track of this kind halts, and where `MOST_HELD` bytes are held.
 ///
 /// An instruction for which there is no memory, or none for what it writes, is not taken.
+#[inline(never)]
 pub fn advance(
     kind: Kind,
     own: u64,

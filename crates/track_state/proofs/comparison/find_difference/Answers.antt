@@ -1,5 +1,4 @@
-use Rattle.std.proofs.Common.{◌≡◌, ◌≢◌, ℕ, Some, None, refl, sym, ap, ◌∙◌, arith}
-use Rattle.guest_model.specs.Difference.{register_difference}
+use Rattle.std.proofs.Common.{Some, None, sym, ◌∙◌, arith}
 use Rattle.track_state.specs.Kept.{flat_state}
 use Rattle.track_state.proofs.OnComparison.{differs-in_pc, differs-in_register, differs-in_place, differs-in_break, differs-in_bytes}
 use Rattle.track_state.proofs.comparison.find_difference.Goals as goal

@@ -1,5 +1,5 @@
-use Rattle.std.proofs.Common.{◌≡◌, ℕ, ◌+◌, ◌≤◌, arith}
-use Rattle.track_state.proofs.OnComparison.{AgreesBelow, register-none, register-some}
+use Rattle.std.proofs.Common.{arith}
+use Rattle.track_state.proofs.OnComparison.{register-none, register-some}
 use Rattle.track_state.proofs.comparison.register_difference.Goals as goal
 
 pub returns-then-get : goal.returns-then-get

@@ -1,4 +1,4 @@
-use Rattle.std.proofs.Common.{◌≡◌, ℕ, ◌+◌, ◌^◌, ◌<◌, ◌≤◌, true, false, Some, None, length, sym, ap, ◌∙◌, subst, arith}
+use Rattle.std.proofs.Common.{◌≡◌, ◌+◌, true, false, Some, None, sym, ap, ◌∙◌, subst, arith}
 use Rattle.guest_model.specs.ByteMap.{bytes_from}
 use Rattle.guest_model.specs.MachineState.{MachineState}
 use Rattle.guest_model.proofs.OnByteMap.{length-bytes_from}
@@ -6,7 +6,7 @@ use Rattle.paged_image.specs.Image.{content}
 use Rattle.track_state.specs.Kept.{flat_state}
 use Rattle.track_state.specs.Progress.{IsProgress}
 use Rattle.track_state.proofs.OnPages.{KeepsPages-refl, KeepsPages-trans}
-use Rattle.track_state.proofs.OnProgress.{SoFar, SoFar-first, SoFar-quiet, SoFar-wrote, pauses-full, pauses-refused, pauses-ended}
+use Rattle.track_state.proofs.OnProgress.{SoFar-first, SoFar-quiet, SoFar-wrote, pauses-full, pauses-refused, pauses-ended}
 use Rattle.track_state.proofs.OnWrites.{is_write, taken_back}
 use Rattle.track_state.proofs.progress.advance.Goals as goal
 use Rattle.track_state.proofs.progress.advance.Goals.{in-Next, in-Wrote+in-Ok-false}

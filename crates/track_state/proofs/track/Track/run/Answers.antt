@@ -1,4 +1,4 @@
-use Rattle.std.proofs.Common.{◌≡◌, ◌≢◌, ℕ, ◌+◌, ◌-◌, ◌<◌, ◌≤◌, min, true, false, length, List, Option, None, ◌⊎◌, inl, inr, refl, sym, ap, ◌∙◌, subst, arith}
+use Rattle.std.proofs.Common.{◌+◌, ◌<◌, ◌≤◌, subst, arith}
 use Rattle.speculation.specs.Run.{Point}
 use Rattle.speculation.specs.Core.{held_size, most_held}
 use Rattle.guest_model.specs.Registers.{IsRegFile}
@@ -10,7 +10,7 @@ use Rattle.paged_image.specs.Image.{content-bounded}
 use Rattle.rv32_law.specs.GuestStates.{IsGuestState, SharesLayout}
 use Rattle.speculation_law.proofs.Options.{is_some-none}
 use Rattle.track_state.specs.Kept.{flat_state}
-use Rattle.track_state.specs.Views.{TrackView, view_of}
+use Rattle.track_state.specs.Views.{view_of}
 use Rattle.track_state.proofs.OnPages.{KeepsStart-more}
 use Rattle.track_state.proofs.OnRuns.{Starts, ran-at}
 use Rattle.track_state.proofs.OnStarts.{held-number, ran-on}
