@@ -58,9 +58,10 @@ module _ (input : List ℕ) (limit : ℕ) where
   regions-later home home2 number low high [] (r ∷ rs) same le rising h = absurd h
   regions-later home home2 number low high (x ∷ xs) [] same le rising h = absurd h
   regions-later home home2 number low high (x ∷ xs) (r ∷ rs) same le rising h =
-      let above : low < r.number = rising.0 in
-      (subst (λ (t : Bool). RegionStands input limit t x.value r) (sym (same r.number (λ e. absurd (omega arith)))) h.0,
-       regions-later home home2 number r.number high xs rs same (omega arith) rising.1 h.1)
+      let above : low < r.number = rising.0 in (
+        subst (λ (t : Bool). RegionStands input limit t x.value r) (sym (same r.number (λ e. absurd (omega arith)))) h.0,
+        regions-later home home2 number r.number high xs rs same (omega arith) rising.1 h.1,
+      )
 
   -- the region at a place
   pub record RegionAt (home : ℕ → Bool) (low : ℕ) (n : LiveNode Region) (rs : List (CoreRegion MachineState)) : Type 0 where

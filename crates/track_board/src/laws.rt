@@ -1,10 +1,5 @@
 //! The law of histories at the image of a board, as the contract of a function that does nothing.
 
-use basic_types::Bytes;
-use board_events::Entries;
-use elf32_loader::Loaded;
-use speculation::Settings;
-
 ghost use Rattle.std.specs.Prelude.{◌≡◌, Some};
 ghost use Rattle.speculation.specs.Core.{Finished};
 ghost use Rattle.speculation.specs.Law.{IsHistory, IsPartial, IsComplete};
@@ -13,6 +8,11 @@ ghost use Rattle.guest_model.specs.Image.{start_of};
 ghost use Rattle.guest_model.specs.Rv32.{rv32};
 ghost use Rattle.elf32_loader.specs.LoadedImage.{image_of_loaded};
 ghost use Rattle.track_board.specs.Value.{GuestCore};
+
+use basic_types::Bytes;
+use board_events::Entries;
+use elf32_loader::Loaded;
+use speculation::Settings;
 
 /// Where these entries are a legal history of these settings, this image and this input: what was released and what may be is a
 /// prefix of what the program alone writes within the budget, and the rows are a prefix of its ledger; where the history has

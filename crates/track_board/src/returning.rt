@@ -92,9 +92,7 @@ impl Board {
         ensures known { IsKnown self.new }
     {
         let lent = take_lent(&mut self.loans, name);
-        let Some(key) = lent.key else {
-            unreachable!()
-        };
+        let Some(key) = lent.key else { unreachable!() };
         let count = put_normal(&mut self.regions, key, track);
         self.entries.push_reserved(Entry::Back { name, count });
     }
