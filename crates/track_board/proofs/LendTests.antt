@@ -232,6 +232,12 @@ module _ (input : List ℕ) (b : Settings) (k : GuestCore) where
 
 -- ---- a board
 
+pub over-unlent : (v : Posted) (n : Name) → over (core_of v) ≡ true → may_lend v n ≡ false
+over-unlent v n is = over-unlendable v.input v.settings (core_of v) n is
+
+pub over-none : (v : Posted) → over (core_of v) ≡ true → oldest_lendable v ≡ None
+over-none v is = over-first v.input v.settings (core_of v) (core_of v).regions is
+
 module _ (i : Inside) (k : GuestCore) (v : Posted) (h : StandsFor i k) (seen : view_of_board i ≡ v) where
   -- what contracts see may be lent
   pub lend-seen : (n : Name) → lendable (rv32 i.input.value) i.settings k n ≡ may_lend v n
@@ -246,18 +252,12 @@ module _ (i : Inside) (k : GuestCore) (v : Posted) (h : StandsFor i k) (seen : v
   kinds : AreNormal k.regions
   kinds = chain-normal i.input.value (go (rv32 i.input.value) (fresh (start_state (view_of_board i))) k.base).state k.regions k.lead (stands-sound i k h).good.chain
 
-  pub over-unlent : (n : Name) → over (core_of v) ≡ true → may_lend v n ≡ false
-  over-unlent n is = sym (lend-seen n) ∙ over-unlendable i.input.value i.settings k n (core-over true is)
-
   pub other-unlent : (n : Name) → n.generation ≢ i.generation → may_lend v n ≡ false
   other-unlent n other = sym (lend-seen n) ∙ other-unlendable i.input.value i.settings k n (λ same. other (same ∙ sym h.fields.generation))
 
   pub named-lends : (n : Name) → over (core_of v) ≡ false → n.generation ≡ i.generation → named_may_go i.last n i.regions.nodes i.lead ≡ may_lend v n
   named-lends n live generation =
       named-ready i.input.value i.settings k i.regions.nodes h.fields.regions kinds i.lead h.fields.lead n i.last h.fields.last (generation ∙ h.fields.generation) (core-over false live) ∙ lend-seen n
-
-  pub over-none : over (core_of v) ≡ true → None ≡ oldest_lendable v
-  over-none is = sym (over-first i.input.value i.settings k k.regions (core-over true is)) ∙ oldest-seen
 
   -- the oldest lendable name, by what is found
   oldest-found : (o : Option ℕ) (leads : Bool) → over (core_of v) ≡ false → o ≡ first_to_go i.regions.nodes → leads ≡ may_go i.lead i.regions.nodes
@@ -274,8 +274,8 @@ module _ (i : Inside) (k : GuestCore) (v : Posted) (h : StandsFor i k) (seen : v
 
   pub oldest-is_lead : (leads : Bool) → over (core_of v) ≡ false → None ≡ first_to_go i.regions.nodes → leads ≡ may_go i.lead i.regions.nodes → leads ≡ true
       → Some (record { generation = i.generation; region = i.last; normal = false }) ≡ oldest_lendable v
-  oldest-is_lead leads live first is yes =
-      ap₂ (λ (g last : ℕ). Some (record { generation = g; region = last; normal = false })) h.fields.generation h.fields.last ∙ oldest-found None true live first (sym yes ∙ is)
+  oldest-is_lead leads live first is may =
+      ap₂ (λ (g last : ℕ). Some (record { generation = g; region = last; normal = false })) h.fields.generation h.fields.last ∙ oldest-found None true live first (sym may ∙ is)
 
   pub oldest-none : (leads : Bool) → over (core_of v) ≡ false → None ≡ first_to_go i.regions.nodes → leads ≡ may_go i.lead i.regions.nodes → leads ≡ false → None ≡ oldest_lendable v
   oldest-none leads live first is not_so = oldest-found None false live first (sym not_so ∙ is)

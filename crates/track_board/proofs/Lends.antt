@@ -1,5 +1,5 @@
 -- The fields of a board that has lent a track.
-use Rattle.std.proofs.Common.{◌≡◌, ℕ, zero, suc, ◌+◌, ◌*◌, ◌<◌, ◌≤◌, Bool, true, false, not, ◌&&◌, ◌||◌, if◌then◌else◌, List, [], ◌∷◌, ◌++◌, Option, Some, None, option_map, is_none, length, map, set, slice_get, All, nat_eq, vec_len, vec_capacity, refl, sym, ap, ap₂, ◌∙◌, subst, eqb-true, eq-eqb, ne_eqb, arith}
+use Rattle.std.proofs.Common.{◌≡◌, ℕ, zero, suc, ◌+◌, ◌*◌, ◌<◌, ◌≤◌, Bool, true, false, not, ◌&&◌, ◌||◌, if◌then◌else◌, List, [], ◌∷◌, ◌++◌, Option, Some, None, option_map, is_none, length, map, set, slice_get, All, nat_eq, vec_len, vec_capacity, refl, sym, ap, ap₂, ◌∙◌, subst, eqb-true, eq-eqb, ne_eqb, arith, Result, Ok, Err, MatchResult}
 use Rattle.std.proofs.lemmas.Option.{none-some, same_Some}
 use Rattle.std.proofs.lemmas.List.{map-append, length-set}
 use Rattle.std.proofs.lemmas.List.Elements.{All-append, All-nil, All-cons}
@@ -16,7 +16,7 @@ use Rattle.speculation_law.proofs.Naming.{find_loan-home}
 use Rattle.speculation_law.proofs.FindLoan.{find_loan-new}
 use Rattle.speculation_law.proofs.Happens.{lent_core}
 use Rattle.speculation_law.proofs.Lending.{Lendable, SomeLendable, lendable-true}
-use Rattle.speculation_law.proofs.SerialSteps.{event-lend}
+use Rattle.speculation_law.proofs.SerialSteps.{event-lend, first_lendable-true}
 use Rattle.guest_model.specs.MachineState.{MachineState}
 use Rattle.guest_model.specs.Rv32.{rv32}
 use Rattle.seniority_queue.specs.Listing.{LiveNode, Listing, get, with_value, IsSound}
@@ -32,7 +32,7 @@ use Rattle.track_board.specs.declared.slot.Slot.{Slot}
 use Rattle.track_board.specs.declared.slot.Slot.TheVariants.{Home, Away}
 use Rattle.track_board.specs.Value.{Posted, GuestCore, machine_of, core_of, run_of, posted}
 use Rattle.track_board.specs.Parts.{TrackStands, SlotStands, RegionStands, RegionsStand, core_loan, core_loans, KeyFinds, LoanFinds}
-use Rattle.track_board.specs.Loans.{may_lend, IsLoanOf, IsLent}
+use Rattle.track_board.specs.Loans.{may_lend, oldest_lendable, IsLoanOf, IsLent, LendIs, LendNamedIs}
 use Rattle.track_board.specs.Invariant.{view_of_board, home_at, FieldsStand, StandsFor}
 use Rattle.track_board.specs.LendTests.{is_numbered, numbered}
 use Rattle.track_board.specs.Lends.{IsHome, HasNormalHome, IsAtHome, IsNormalOut, IsOut}
@@ -40,7 +40,7 @@ use Rattle.track_board.proofs.Foundation.{core-stood, posted-core, stands-sound,
 use Rattle.track_board.proofs.Finishes.{IsPushed, pushed-view, pushed-legal}
 use Rattle.track_board.proofs.LendTests.{lend-seen}
 use Rattle.track_board.proofs.Queues.{KeepsNumbers, loans-kept, keeps-changed}
-use Rattle.track_board.proofs.Walks.{NumberedAt, numbered-at}
+use Rattle.track_board.proofs.Walks.{NumberedAt, numbered-at, NumberedBy, numbered-by}
 
 -- ---- who is at home while one more track is lent
 
@@ -181,7 +181,6 @@ module _ (input : List ℕ) (limit : ℕ) where
 -- what a loan needs: the fields `j` hold what the calls left
 pub record IsLending (i j : Inside) (seat : ℕ) (n : Name) (x : Track) (key : Option Key) : Type 0 where
   pub out : IsOut n.normal n.region i.regions j.regions i.lead j.lead x key
-  pub sound : IsSound i.regions
   pub loans : j.loans.items ≡ i.loans.items ++ (record { seat = seat; name = n; key = key; dropped = None } ∷ [])
   pub count : vec_len j.loans ≡ vec_len i.loans + 1
   pub pushed : IsPushed i j (E.Lend seat n)
@@ -221,7 +220,10 @@ module _ (i : Inside) (k : GuestCore) (n : Name) (t : CoreTrack MachineState) (h
       track : TrackStands i.input.value i.settings.budget x true t
 
     normal-out : n.generation ≡ k.generation → n.normal ≡ true → find_normal n.region k.regions ≡ Some t → IsOut true n.region i.regions j.regions i.lead j.lead x key → IsOutNow
-    normal-out generation normal found (same_lead, at, is_key, out) =
+    normal-out generation normal found (same_lead, rest) =
+        let at = rest.0 in
+        let is_key = rest.1 in
+        let out = rest.2 in
         let input = i.input.value in
         let limit = i.settings.budget in
         let s = stands-numbered input limit (home_at k) n.region i.regions.nodes k.regions t h.fields.regions found in
@@ -231,9 +233,9 @@ module _ (i : Inside) (k : GuestCore) (n : Name) (t : CoreTrack MachineState) (h
         let away : Region = record out.node.value { normal = Away (view_of x).own } in
         let put : j.regions ≡ with_value i.regions out.node.key away = out.put ∙ ap (λ (y : Key). with_value i.regions y away) out.own_key in
         let nodes : j.regions.nodes ≡ set i.regions.nodes place.place (record out.node { value = away }) =
-            ap (λ (q : Listing Region). q.nodes) put ∙ with_value-of_place i.regions l.sound place.place out.node place.at away in
+            ap (λ (q : Listing Region). q.nodes) put ∙ with_value-of_place i.regions out.sound place.place out.node place.at away in
         let numbers : KeepsNumbers i.regions j.regions = keeps-changed i.regions j.regions place.place out.node away place.at refl nodes in
-        let got : get i.regions at ≡ Some out.node.value = ap (get i.regions) out.own_key ∙ get-of_place i.regions l.sound place.place out.node place.at in
+        let got : get i.regions at ≡ Some out.node.value = ap (get i.regions) out.own_key ∙ get-of_place i.regions out.sound place.place out.node place.at in
         let now = numbers.at at out.node.value got in
         let home2 : ℕ → Bool = home_at (lent_core k seat n) in
         let self : record { generation = k.generation; region = out.node.value.number; normal = true } ≡ n =
@@ -371,3 +373,40 @@ module _ (i : Inside) (k : GuestCore) (n : Name) (t : CoreTrack MachineState) (h
           loan_of = lent-to;
           still = ap (λ (c : GuestCore). find_track c n) core-now ∙ can.found;
         }
+
+-- ---- the original that is taken out
+
+-- the region that has the key of its number
+module _ (q : Listing Region) (number : ℕ) (key : Key) (r : Region) (sound : IsSound q) (is : Some key ≡ option_map (λ n. n.key) (numbered number q.nodes)) (got : Some r ≡ get q key) where
+  the-node : NumberedBy number q key
+  the-node = numbered-by number q key sound is
+
+  the-region : the-node.node.value ≡ r
+  the-region = (let same : Some the-node.node.value ≡ Some r = sym the-node.got ∙ sym got in same_Some the-node.node.value r same)
+
+  pub normal-home : HasNormalHome number q.nodes → IsHome r.normal
+  normal-home (n, found, home) =
+      let node : n ≡ the-node.node = same_Some n the-node.node (sym found ∙ the-node.found) in
+      (home.0, ap (λ (y : Region). y.normal) (sym the-region) ∙ ap (λ (y : LiveNode Region). y.value.normal) (sym node) ∙ home.1)
+
+  pub normal-is_out : (x : Track) (s : Slot) → r.normal ≡ Home x → s ≡ Away (view_of x).own → IsNormalOut q (with_value q key (record r { normal = s })) number x key
+  normal-is_out x s was away = record {
+    sound = sound;
+    node = the-node.node;
+    found = the-node.found;
+    own_key = the-node.key_is;
+    was = ap (λ (y : Region). y.normal) the-region ∙ was;
+    put = ap₂ (λ (y : Region) (t : Slot). with_value q key (record y { normal = t })) (sym the-region) away;
+  }
+
+-- ---- the oldest
+
+oldest-can : (v : Posted) (n : Name) → oldest_lendable v ≡ Some n → may_lend v n ≡ true
+oldest-can v n is = first_lendable-true (machine_of v) v.settings (core_of v) n (core_of v).regions is
+
+-- the loan of the oldest lendable name
+pub lend-oldest : {F : Type 0} (v w : Posted) (seat : ℕ) (n : Name) (r : Result (Option Loan) F) → Some n ≡ oldest_lendable v
+    → MatchResult r (LendNamedIs v w seat n) (λ _. w ≡ v) → MatchResult r (LendIs v w seat) (λ _. w ≡ v)
+lend-oldest v w seat n (Err e) is h = h
+lend-oldest v w seat n (Ok None) is h = absurd (let can = oldest-can v n (sym is) in let cannot = h.1 in cc)
+lend-oldest v w seat n (Ok (Some loan)) is h = (h.0, sym is ∙ ap (λ (m : Name). Some m) (sym h.1))

@@ -1,6 +1,6 @@
 -- How the fields change where a track goes out
-use Rattle.std.specs.Prelude.{◌≡◌, ℕ, ◌≤◌, Bool, true, false, List, Option, Some, None}
-use Rattle.seniority_queue.specs.Listing.{Listing, LiveNode, with_value}
+use Rattle.std.specs.Prelude.{◌≡◌, ℕ, Bool, true, false, List, Option, Some}
+use Rattle.seniority_queue.specs.Listing.{Listing, LiveNode, with_value, IsSound}
 use Rattle.seniority_queue.specs.declared.key.Key.{Key}
 use Rattle.track_state.specs.Views.{view_of}
 use Rattle.track_state.specs.declared.track.Track.{Track}
@@ -24,6 +24,7 @@ IsAtHome false number ns lead = IsHome lead
 
 -- the original of the region of this number is taken out of the region with this key, which keeps its count
 pub record IsNormalOut (old new : Listing Region) (number : ℕ) (x : Track) (key : Key) : Type 0 where
+  pub sound : IsSound old
   pub node : LiveNode Region
   pub found : numbered number old.nodes ≡ Some node
   pub own_key : key ≡ node.key

@@ -63,13 +63,13 @@ pub(crate) fn find_region(regions: &Queue<Region>, number: u64) -> Option<Key>
 pub(crate) fn first_to_go(regions: &Queue<Region>) -> Option<u64>
     ensures { result ≡ first_to_go regions.now.nodes }
 {
-    let mut at = regions.front();
-    while let Some(key) = at {
+    let mut next = regions.front();
+    while let Some(key) = next {
         let region = regions.get(key)?;
         if may_go(&region.normal, regions) {
             return Some(region.number);
         }
-        at = regions.after(key);
+        next = regions.after(key);
     }
     None
 }

@@ -1,7 +1,6 @@
 //! Lending tracks out.
 
 ghost use Rattle.std.specs.Prelude.{◌≡◌, ◌≤◌, ◌+◌, Some, OnOk, MatchResult, vec_len, vec_capacity};
-ghost use Rattle.seniority_queue.specs.Listing.{IsSound};
 ghost use Rattle.track_state.specs.Views.{view_of};
 ghost use Rattle.track_board.specs.declared.slot.Slot.TheVariants.{Home, Away};
 ghost use Rattle.track_board.specs.Lends.{IsHome, HasNormalHome, IsAtHome, IsNormalOut, IsOut};
@@ -124,7 +123,6 @@ fn take_out(regions: &mut Queue<Region>, lead: &mut Slot, name: Name) -> (Track,
     requires { IsAtHome name.normal name.region regions.old.nodes lead.old }
     ensures out { IsOut name.normal name.region regions.old regions.new lead.old lead.new result.0 result.1 }
     ensures within { (view_of result.0).own ≤ (view_of result.0).budget }
-    ensures sound { IsSound regions.old }
 {
     if name.normal {
         let (track, key) = take_normal(regions, name.region);
@@ -139,7 +137,6 @@ fn take_normal(regions: &mut Queue<Region>, number: u64) -> (Track, Key)
     requires { HasNormalHome number regions.old.nodes }
     ensures out { IsNormalOut regions.old regions.new number result.0 result.1 }
     ensures within { (view_of result.0).own ≤ (view_of result.0).budget }
-    ensures sound { IsSound regions.old }
 {
     let Some(key) = find_region(regions, number) else {
         unreachable!()

@@ -1,4 +1,5 @@
-use Rattle.std.proofs.Common.{◌≡◌, ◌<◌, Bool, Option, Some, None, nat_eq, sym, ap, subst, eq-eqb, ne_eqb}
+use Rattle.std.proofs.Common.{◌≡◌, ◌<◌, Bool, Option, Some, None, option_map, nat_eq, sym, ap, subst, eq-eqb, ne_eqb}
+use Rattle.seniority_queue.specs.Listing.{LiveNode}
 use Rattle.seniority_queue.specs.declared.key.Key.{Key}
 use Rattle.track_board.specs.declared.region.Region.{Region}
 use Rattle.track_board.proofs.Walks.{SoughtFrom, names_left, sought-key, sought-next, sought-fewer, sought-none}
@@ -25,4 +26,4 @@ loop-at-preserved c =
       (ne_eqb c.args.number r.number (λ same. c.if-region-number.false (sym same))))
 
 pub returns : goal.returns
-returns c = (let h = c.in_default.not-Some in let g = c.in_default.is in ?)
+returns c = sym (ap (option_map (λ (n : LiveNode Region). n.key)) (sought-none c.args.regions.now (λ (x : Region). nat_eq c.args.number x.number) c.loop-at.at c.loop-at.invariant c.in_default.is))
