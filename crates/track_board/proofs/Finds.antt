@@ -11,7 +11,7 @@ use Rattle.guest_model.specs.MachineState.{MachineState}
 use Rattle.guest_model.specs.Rv32.{rv32}
 use Rattle.guest_model.specs.declared.difference.Difference.{Difference}
 use Rattle.guest_model.specs.declared.end.End.{End}
-use Rattle.region_ledger.specs.Ledger.{core_finished, judged}
+use Rattle.region_ledger.specs.Ledger.{core_finished}
 use Rattle.region_ledger.specs.declared.finished.Finished.{Finished}
 use Rattle.seniority_queue.specs.Listing.{LiveNode}
 use Rattle.track_state.specs.Views.{view_of}

@@ -14,10 +14,10 @@ use Rattle.region_ledger.specs.Ledger.{core_finished}
 use Rattle.speculation_law.specs.Sound.{one_if}
 use Rattle.speculation_law.proofs.Names.{name_eq-true, is_lent-found}
 use Rattle.speculation_law.proofs.FindLoan.{find_loan-name}
-use Rattle.track_board.specs.Value.{Posted, GuestCore, machine_of, run_of, core_of, posted}
+use Rattle.track_board.specs.Value.{Posted, GuestCore, machine_of, run_of}
 use Rattle.track_board.specs.Parts.{SlotStands, RegionsStand, core_loan, core_loans, LoanFinds}
 use Rattle.track_board.specs.Loans.{halted_by}
-use Rattle.track_board.specs.Invariant.{view_of_board, home_at, StandsFor}
+use Rattle.track_board.specs.Invariant.{view_of_board, StandsFor}
 use Rattle.track_board.specs.declared.board.Board.TheInside.{Inside}
 use Rattle.track_board.specs.declared.loan.Lent.{Lent}
 use Rattle.track_board.proofs.Foundation.{legal-more, is_some-map}

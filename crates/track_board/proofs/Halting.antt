@@ -1,10 +1,10 @@
 -- A board that is halted.
-use Rattle.std.proofs.Common.{◌≡◌, ℕ, ◌+◌, ◌≤◌, Bool, true, false, not, ◌||◌, [], ◌∷◌, ◌++◌, Some, is_some, vec_len, vec_capacity, refl, sym, ap, ◌∙◌, arith}
+use Rattle.std.proofs.Common.{◌≡◌, ℕ, ◌+◌, Bool, true, false, not, ◌||◌, [], ◌∷◌, ◌++◌, Some, is_some, vec_len, vec_capacity, refl, ap, ◌∙◌, arith}
 use Rattle.speculation.specs.declared.history.Entry.TheVariants as E
 use Rattle.speculation.specs.Core.{over}
 use Rattle.speculation.specs.Events.{some_if, event}
 use Rattle.speculation_law.specs.Sound.{one_if}
-use Rattle.track_board.specs.Value.{Posted, GuestCore, machine_of, run_of, posted}
+use Rattle.track_board.specs.Value.{Posted, GuestCore, machine_of, run_of}
 use Rattle.track_board.specs.Invariant.{view_of_board, StandsFor}
 use Rattle.track_board.specs.declared.board.Board.TheInside.{Inside}
 use Rattle.track_board.proofs.Foundation.{legal-more}

@@ -1,15 +1,15 @@
 -- The tests that find what may be lent, over the fields of a board, are those of the core that these stand for.
-use Rattle.std.proofs.Common.{◌≡◌, ◌≢◌, ℕ, suc, ◌<◌, ◌≤◌, Bool, true, false, not, ◌&&◌, ◌||◌, List, [], ◌∷◌, Option, Some, None, option_map, find, is_some, if◌then◌else◌, nat_eq, nat_lt, refl, sym, ap, ap₂, ◌∙◌, subst, eqb-true, eq-eqb, ne_eqb, arith}
+use Rattle.std.proofs.Common.{◌≡◌, ◌≢◌, ℕ, ◌≤◌, Bool, true, false, not, ◌&&◌, ◌||◌, List, [], ◌∷◌, Option, Some, None, option_map, find, is_some, if◌then◌else◌, nat_eq, nat_lt, refl, sym, ap, ap₂, ◌∙◌, subst, eqb-true, eq-eqb, ne_eqb, arith}
 use Rattle.std.proofs.lemmas.Bool.{and_right}
 use Rattle.speculation.specs.declared.tracks.Kind.{Kind}
 use Rattle.speculation.specs.declared.tracks.Kind.TheVariants.{Normal, Fast}
 use Rattle.speculation.specs.declared.tracks.Name.{Name}
 use Rattle.speculation.specs.declared.history.Settings.{Settings}
 use Rattle.speculation.specs.Run.{Piece, fresh, go}
-use Rattle.speculation.specs.Core.{Track as CoreTrack, Region as CoreRegion, over, lead_name, normal_name, at_home, lead_home, find_normal, track_by, find_track, track_point, at_boundary, has_stop, is_kind, held_size, most_held}
+use Rattle.speculation.specs.Core.{Track as CoreTrack, Region as CoreRegion, over, lead_name, normal_name, lead_home, find_normal, track_by, find_track, track_point, at_boundary, has_stop, is_kind, held_size, most_held}
 use Rattle.speculation.specs.Events.{wanted, ready_to_go, is_ready, lendable}
 use Rattle.speculation.specs.Serial.{first_lendable}
-use Rattle.speculation_law.specs.Facts.{NormalTrack, Tail, Chain}
+use Rattle.speculation_law.specs.Facts.{Tail, Chain}
 use Rattle.speculation_law.specs.Naming.{Rising}
 use Rattle.guest_model.specs.MachineState.{MachineState}
 use Rattle.guest_model.specs.Rv32.{rv32}
@@ -21,11 +21,11 @@ use Rattle.track_board.specs.declared.board.Board.TheInside.{Inside}
 use Rattle.track_board.specs.declared.region.Region.{Region}
 use Rattle.track_board.specs.declared.slot.Slot.{Slot}
 use Rattle.track_board.specs.declared.slot.Slot.TheVariants.{Home, Away}
-use Rattle.track_board.specs.Value.{Posted, GuestCore, machine_of, start_state, core_of}
+use Rattle.track_board.specs.Value.{Posted, GuestCore, start_state, core_of}
 use Rattle.track_board.specs.Parts.{TrackStands, SlotStands, RegionsStand}
 use Rattle.track_board.specs.Loans.{may_lend, oldest_lendable}
 use Rattle.track_board.specs.Invariant.{view_of_board, home_at, StandsFor}
-use Rattle.track_board.specs.LendTests.{last_region, is_numbered, numbered, runs_by, may_run, is_below, is_below_last, is_wanted, may_go, normal_may_go, found_may_go, named_may_go, first_to_go}
+use Rattle.track_board.specs.LendTests.{last_region, numbered, runs_by, may_run, is_below, is_below_last, is_wanted, may_go, normal_may_go, found_may_go, named_may_go, first_to_go}
 use Rattle.track_board.proofs.Foundation.{core-stood, core-seen, stands-sound, kind-home, own-home, held-home, end-home, boundary-home}
 use Rattle.track_board.proofs.DueTests.{is_boundary-by}
 
@@ -121,9 +121,9 @@ module _ (input : List ℕ) (b : Settings) where
           let few = nat_lt (held_size t.held) most_held in
           let useful = if is_kind t.kind Fast then wanted (rv32 input) k k.regions else true in
           let same : is_wanted v all ≡ useful =
-              ap (λ (kind : Kind). if is_kind kind Fast then is_below_last v.own (last_region all) else true) (sym (kind-home input b.budget x home t h))
-              ∙ only-fast (is_kind t.kind Fast) (is_below_last v.own (last_region all)) (wanted (rv32 input) k k.regions)
-                (λ fast. wanted-regions v.own all k.regions (sym (own-home input b.budget x home t h) ∙ leads fast) stand) in
+          ap (λ (kind : Kind). if is_kind kind Fast then is_below_last v.own (last_region all) else true) (sym (kind-home input b.budget x home t h))
+          ∙ only-fast (is_kind t.kind Fast) (is_below_last v.own (last_region all)) (wanted (rv32 input) k k.regions)
+          (λ fast. wanted-regions v.own all k.regions (sym (own-home input b.budget x home t h) ∙ leads fast) stand) in
           ap₂ (λ (p q : Bool). if p then q else false) (run-home x home t h) same
           ∙ go-parts (has_stop (rv32 input) b t) few useful
           ∙ ap (λ (p : Bool). p && (not (has_stop (rv32 input) b t) && (few && useful))) (sym h.here)
@@ -265,7 +265,7 @@ module _ (i : Inside) (k : GuestCore) (v : Posted) (h : StandsFor i k) (seen : v
   oldest-found o leads live first is =
       ap₂ (oldest_by i.input.value i.settings k i.regions.nodes h.fields.regions kinds i.lead h.fields.lead) first is
       ∙ regions-oldest i.input.value i.settings k i.regions.nodes h.fields.regions kinds i.lead h.fields.lead i.regions.nodes k.regions h.fields.regions kinds
-        (rising-found 0 k.last k.regions (stands-sound i k h).named.rising) (core-over false live)
+      (rising-found 0 k.last k.regions (stands-sound i k h).named.rising) (core-over false live)
       ∙ oldest-seen
 
   pub oldest-normal : (number : ℕ) → over (core_of v) ≡ false → Some number ≡ first_to_go i.regions.nodes → Some (record { generation = i.generation; region = number; normal = true }) ≡ oldest_lendable v

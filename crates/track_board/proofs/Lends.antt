@@ -1,11 +1,10 @@
 -- The fields of a board that has lent a track.
-use Rattle.std.proofs.Common.{◌≡◌, ℕ, zero, suc, ◌+◌, ◌*◌, ◌<◌, ◌≤◌, Bool, true, false, not, ◌&&◌, ◌||◌, if◌then◌else◌, List, [], ◌∷◌, ◌++◌, Option, Some, None, option_map, is_none, length, map, set, slice_get, All, nat_eq, vec_len, vec_capacity, refl, sym, ap, ap₂, ◌∙◌, subst, eqb-true, eq-eqb, ne_eqb, arith, Result, Ok, Err, MatchResult}
+use Rattle.std.proofs.Common.{◌≡◌, ℕ, zero, suc, ◌+◌, ◌<◌, ◌≤◌, Bool, true, false, not, ◌&&◌, if◌then◌else◌, List, [], ◌∷◌, ◌++◌, Option, Some, None, option_map, is_none, length, set, slice_get, All, nat_eq, vec_len, vec_capacity, refl, sym, ap, ap₂, ◌∙◌, subst, eqb-true, eq-eqb, ne_eqb, arith, Result, Ok, Err, MatchResult}
 use Rattle.std.proofs.lemmas.Option.{none-some, same_Some}
 use Rattle.std.proofs.lemmas.List.{map-append, length-set}
 use Rattle.std.proofs.lemmas.List.Elements.{All-append, All-nil, All-cons}
 use Rattle.speculation.specs.declared.tracks.Name.{Name}
 use Rattle.speculation.specs.declared.tracks.OpenLoan.{OpenLoan}
-use Rattle.speculation.specs.declared.history.Entry.{Entry}
 use Rattle.speculation.specs.declared.history.Entry.TheVariants as E
 use Rattle.speculation.specs.Core.{Track as CoreTrack, Region as CoreRegion, over, name_eq, lead_name, is_lent, is_named, at_home, lead_home, find_loan, find_normal, find_track}
 use Rattle.speculation.specs.Events.{event, lendable}
@@ -15,7 +14,7 @@ use Rattle.speculation_law.proofs.Names.{FoundTrack, Original, Lead, find_track-
 use Rattle.speculation_law.proofs.Naming.{find_loan-home}
 use Rattle.speculation_law.proofs.FindLoan.{find_loan-new}
 use Rattle.speculation_law.proofs.Happens.{lent_core}
-use Rattle.speculation_law.proofs.Lending.{Lendable, SomeLendable, lendable-true}
+use Rattle.speculation_law.proofs.Lending.{Lendable}
 use Rattle.speculation_law.proofs.SerialSteps.{event-lend, first_lendable-true}
 use Rattle.guest_model.specs.MachineState.{MachineState}
 use Rattle.guest_model.specs.Rv32.{rv32}
@@ -30,17 +29,17 @@ use Rattle.track_board.specs.declared.loan.Loan.{Loan}
 use Rattle.track_board.specs.declared.region.Region.{Region}
 use Rattle.track_board.specs.declared.slot.Slot.{Slot}
 use Rattle.track_board.specs.declared.slot.Slot.TheVariants.{Home, Away}
-use Rattle.track_board.specs.Value.{Posted, GuestCore, machine_of, core_of, run_of, posted}
-use Rattle.track_board.specs.Parts.{TrackStands, SlotStands, RegionStands, RegionsStand, core_loan, core_loans, KeyFinds, LoanFinds}
+use Rattle.track_board.specs.Value.{Posted, GuestCore, machine_of, core_of, posted}
+use Rattle.track_board.specs.Parts.{TrackStands, SlotStands, RegionStands, RegionsStand, core_loan, core_loans, LoanFinds}
 use Rattle.track_board.specs.Loans.{may_lend, oldest_lendable, IsLoanOf, IsLent, LendIs, LendNamedIs}
-use Rattle.track_board.specs.Invariant.{view_of_board, home_at, FieldsStand, StandsFor}
-use Rattle.track_board.specs.LendTests.{is_numbered, numbered}
+use Rattle.track_board.specs.Invariant.{view_of_board, home_at, StandsFor}
+use Rattle.track_board.specs.LendTests.{numbered}
 use Rattle.track_board.specs.Lends.{IsHome, HasNormalHome, IsAtHome, IsNormalOut, IsOut}
-use Rattle.track_board.proofs.Foundation.{core-stood, posted-core, stands-sound, own-home}
+use Rattle.track_board.proofs.Foundation.{core-stood, stands-sound, own-home}
 use Rattle.track_board.proofs.Finishes.{IsPushed, pushed-view, pushed-legal}
 use Rattle.track_board.proofs.LendTests.{lend-seen}
 use Rattle.track_board.proofs.Queues.{KeepsNumbers, loans-kept, keeps-changed}
-use Rattle.track_board.proofs.Walks.{NumberedAt, numbered-at, NumberedBy, numbered-by}
+use Rattle.track_board.proofs.Walks.{numbered-at, NumberedBy, numbered-by}
 
 -- ---- who is at home while one more track is lent
 
@@ -92,14 +91,16 @@ module _ (input : List ℕ) (limit : ℕ) where
   regions-home home home2 low high [] [] rising same h = tt
   regions-home home home2 low high [] (r ∷ rs) rising same h = absurd h
   regions-home home home2 low high (n ∷ ns) [] rising same h = absurd h
-  regions-home home home2 low high (n ∷ ns) (r ∷ rs) rising same h =
-      (record {
-        number = h.0.number;
-        normal = subst (λ (t : Bool). SlotStands input limit n.value.normal t r.normal) (same r.number rising.0) h.0.normal;
-        fast = h.0.fast;
-        keeps = h.0.keeps;
-        segment = h.0.segment;
-      }, regions-home home home2 r.number high ns rs rising.1 (λ number above. same number (omega (arith, rising.0))) h.1)
+  regions-home home home2 low high (n ∷ ns) (r ∷ rs) rising same h = (
+    record {
+      number = h.0.number;
+      normal = subst (λ (t : Bool). SlotStands input limit n.value.normal t r.normal) (same r.number rising.0) h.0.normal;
+      fast = h.0.fast;
+      keeps = h.0.keeps;
+      segment = h.0.segment;
+    },
+    regions-home home home2 r.number high ns rs rising.1 (λ number above. same number (omega (arith, rising.0))) h.1,
+  )
 
   number-above : (home : ℕ → Bool) (low high place : ℕ) (n : LiveNode Region) (ns : List (LiveNode Region)) (rs : List (CoreRegion MachineState)) → Rising low high rs → RegionsStand input limit home ns rs
       → slice_get ns place ≡ Some n → low < n.value.number
@@ -121,25 +122,29 @@ module _ (input : List ℕ) (limit : ℕ) where
   regions-away home home2 x low high place n (m ∷ ns) [] rising at was away others h = absurd h
   regions-away home home2 x low high zero n (m ∷ ns) (r ∷ rs) rising at was away others h =
       let same : m ≡ n = same_Some m n at in
-      let stands : RegionStands input limit (home r.number) n.value r = subst (λ (y : LiveNode Region). RegionStands input limit (home r.number) y.value r) same h.0 in
-      (record {
-        number = stands.number;
-        normal = record { away = ap home2 (sym stands.number) ∙ away; count = away-slot x n.value.normal (home r.number) r.normal was stands.normal };
-        fast = stands.fast;
-        keeps = stands.keeps;
-        segment = stands.segment;
-      }, regions-home home home2 r.number high ns rs rising.1
-        (λ number above. others number (ne_eqb number n.value.number (λ is. absurd (let here = stands.number in omega arith)))) h.1)
+      let stands : RegionStands input limit (home r.number) n.value r = subst (λ (y : LiveNode Region). RegionStands input limit (home r.number) y.value r) same h.0 in (
+        record {
+          number = stands.number;
+          normal = record { away = ap home2 (sym stands.number) ∙ away; count = away-slot x n.value.normal (home r.number) r.normal was stands.normal };
+          fast = stands.fast;
+          keeps = stands.keeps;
+          segment = stands.segment;
+        },
+        regions-home home home2 r.number high ns rs rising.1
+            (λ number above. others number (ne_eqb number n.value.number (λ is. absurd (let here = stands.number in omega arith)))) h.1,
+      )
   regions-away home home2 x low high (suc place) n (m ∷ ns) (r ∷ rs) rising at was away others h =
       let above = number-above home r.number high place n ns rs rising.1 h.1 at in
-      let apart : nat_eq r.number n.value.number ≡ false = ne_eqb r.number n.value.number (λ is. absurd (omega (arith, above))) in
-      (record {
-        number = h.0.number;
-        normal = subst (λ (t : Bool). SlotStands input limit m.value.normal t r.normal) (others r.number apart) h.0.normal;
-        fast = h.0.fast;
-        keeps = h.0.keeps;
-        segment = h.0.segment;
-      }, regions-away home home2 x r.number high place n ns rs rising.1 at was away others h.1)
+      let apart : nat_eq r.number n.value.number ≡ false = ne_eqb r.number n.value.number (λ is. absurd (omega (arith, above))) in (
+        record {
+          number = h.0.number;
+          normal = subst (λ (t : Bool). SlotStands input limit m.value.normal t r.normal) (others r.number apart) h.0.normal;
+          fast = h.0.fast;
+          keeps = h.0.keeps;
+          segment = h.0.segment;
+        },
+        regions-away home home2 x r.number high place n ns rs rising.1 at was away others h.1,
+      )
 
   -- the region that stands for the core's region of a number
   record StandsNumbered (home : ℕ → Bool) (number : ℕ) (ns : List (LiveNode Region)) (t : CoreTrack MachineState) : Type 0 where
@@ -160,8 +165,8 @@ module _ (input : List ℕ) (limit : ℕ) where
         node = n;
         found = ap (λ (u : Bool). if u then Some n else numbered number ns) (ap (nat_eq number) h.0.number ∙ is);
         stands =
-          subst (λ (x : CoreTrack MachineState). SlotStands input limit n.value.normal (home number) x) (same_Some r.normal t same)
-          (subst (λ (other : ℕ). SlotStands input limit n.value.normal (home other) r.normal) (sym (eqb-true number r.number is)) h.0.normal);
+            subst (λ (x : CoreTrack MachineState). SlotStands input limit n.value.normal (home number) x) (same_Some r.normal t same)
+            (subst (λ (other : ℕ). SlotStands input limit n.value.normal (home other) r.normal) (sym (eqb-true number r.number is)) h.0.normal);
       }
       by-test false is behind later =
           let rest = later behind in
@@ -233,25 +238,25 @@ module _ (i : Inside) (k : GuestCore) (n : Name) (t : CoreTrack MachineState) (h
         let away : Region = record out.node.value { normal = Away (view_of x).own } in
         let put : j.regions ≡ with_value i.regions out.node.key away = out.put ∙ ap (λ (y : Key). with_value i.regions y away) out.own_key in
         let nodes : j.regions.nodes ≡ set i.regions.nodes place.place (record out.node { value = away }) =
-            ap (λ (q : Listing Region). q.nodes) put ∙ with_value-of_place i.regions out.sound place.place out.node place.at away in
+        ap (λ (q : Listing Region). q.nodes) put ∙ with_value-of_place i.regions out.sound place.place out.node place.at away in
         let numbers : KeepsNumbers i.regions j.regions = keeps-changed i.regions j.regions place.place out.node away place.at refl nodes in
         let got : get i.regions at ≡ Some out.node.value = ap (get i.regions) out.own_key ∙ get-of_place i.regions out.sound place.place out.node place.at in
         let now = numbers.at at out.node.value got in
         let home2 : ℕ → Bool = home_at (lent_core k seat n) in
         let self : record { generation = k.generation; region = out.node.value.number; normal = true } ≡ n =
-            λ z. record { generation = sym generation z; region = sym number z; normal = sym normal z } in
+        λ z. record { generation = sym generation z; region = sym number z; normal = sym normal z } in
         let lead_apart : name_eq (lead_name k) n ≡ false = kind-apart (lead_name k) n false true refl normal refl in
         record {
           regions =
-            subst (λ (ns : List (LiveNode Region)). RegionsStand input limit home2 ns k.regions) (sym nodes)
-            (regions-away input limit (home_at k) home2 x 0 k.last place.place out.node i.regions.nodes k.regions (stands-sound i k h).named.rising place.at out.was
-            (ap (at_home (lent_core k seat n)) self ∙ home-same k seat n)
-            (λ other apart. home-other k seat n (record { generation = k.generation; region = other; normal = true })
+              subst (λ (ns : List (LiveNode Region)). RegionsStand input limit home2 ns k.regions) (sym nodes)
+              (regions-away input limit (home_at k) home2 x 0 k.last place.place out.node i.regions.nodes k.regions (stands-sound i k h).named.rising place.at out.was
+              (ap (at_home (lent_core k seat n)) self ∙ home-same k seat n)
+              (λ other apart. home-other k seat n (record { generation = k.generation; region = other; normal = true })
               (region-apart (record { generation = k.generation; region = other; normal = true }) n (ap (nat_eq other) number ∙ apart)))
-            h.fields.regions);
+              h.fields.regions);
           lead =
-            subst (λ (y : Slot). SlotStands input limit y (lead_home (lent_core k seat n)) k.lead) (sym same_lead)
-            (subst (λ (o : Bool). SlotStands input limit i.lead o k.lead) (home-other k seat n (lead_name k) lead_apart) h.fields.lead);
+              subst (λ (y : Slot). SlotStands input limit y (lead_home (lent_core k seat n)) k.lead) (sym same_lead)
+              (subst (λ (o : Bool). SlotStands input limit i.lead o k.lead) (home-other k seat n (lead_name k) lead_apart) h.fields.lead);
           numbers = numbers;
           finds = λ live original. record { key = at; given = is_key; region = now.0; found = now.1; is = now.2 ∙ sym number };
           made = ap (λ (q : Listing Region). q.made) put;
@@ -268,14 +273,14 @@ module _ (i : Inside) (k : GuestCore) (n : Name) (t : CoreTrack MachineState) (h
         let stands : SlotStands input limit (Home x) (lead_home k) k.lead = subst (λ (y : Slot). SlotStands input limit y (lead_home k) k.lead) was h.fields.lead in
         record {
           regions =
-            subst (λ (ns : List (LiveNode Region)). RegionsStand input limit home2 ns k.regions) (sym nodes)
-            (regions-home input limit (home_at k) home2 0 k.last i.regions.nodes k.regions (stands-sound i k h).named.rising
-            (λ other above. home-other k seat n (record { generation = k.generation; region = other; normal = true })
+              subst (λ (ns : List (LiveNode Region)). RegionsStand input limit home2 ns k.regions) (sym nodes)
+              (regions-home input limit (home_at k) home2 0 k.last i.regions.nodes k.regions (stands-sound i k h).named.rising
+              (λ other above. home-other k seat n (record { generation = k.generation; region = other; normal = true })
               (kind-apart (record { generation = k.generation; region = other; normal = true }) n true false refl normal refl))
-            h.fields.regions);
+              h.fields.regions);
           lead =
-            subst (λ (y : Slot). SlotStands input limit y (lead_home (lent_core k seat n)) k.lead) (sym now)
-            (record { away = ap (at_home (lent_core k seat n)) (sym named) ∙ home-same k seat n; count = sym (own-home input limit x (lead_home k) k.lead stands) });
+              subst (λ (y : Slot). SlotStands input limit y (lead_home (lent_core k seat n)) k.lead) (sym now)
+              (record { away = ap (at_home (lent_core k seat n)) (sym named) ∙ home-same k seat n; count = sym (own-home input limit x (lead_home k) k.lead stands) });
           numbers = record { at = λ y r found. (r, ap (λ (q : Listing Region). get q y) same ∙ found, refl) };
           finds = λ live original. absurd (cc);
           made = ap (λ (q : Listing Region). q.made) same;
@@ -320,18 +325,18 @@ module _ (i : Inside) (k : GuestCore) (n : Name) (t : CoreTrack MachineState) (h
             lead = o.lead;
             loans = loans-now;
             keys =
-              subst (λ (ls : List Lent). All (LoanFinds j.regions) ls) (sym l.loans)
-              (All-append (LoanFinds j.regions) i.loans.items (new ∷ []) (loans-kept i.regions j.regions o.numbers i.loans.items h.fields.keys) (All-cons (LoanFinds j.regions) new [] o.finds (All-nil (LoanFinds j.regions))));
+                subst (λ (ls : List Lent). All (LoanFinds j.regions) ls) (sym l.loans)
+                (All-append (LoanFinds j.regions) i.loans.items (new ∷ []) (loans-kept i.regions j.regions o.numbers i.loans.items h.fields.keys) (All-cons (LoanFinds j.regions) new [] o.finds (All-nil (LoanFinds j.regions))));
             finish = h.fields.finish;
             halted = h.fields.halted;
           };
           room = record {
             entries =
-              (let len = l.pushed.len in
-              let count = l.count in
-              let room = l.room in
-              let one = one-at-most (over k) in
-              omega arith);
+                (let len = l.pushed.len in
+                let count = l.count in
+                let room = l.room in
+                let one = one-at-most (over k) in
+                omega arith);
             names = (let names = h.room.names in let made = o.made in let count = o.count in omega arith);
           };
         }
@@ -351,11 +356,12 @@ module _ (i : Inside) (k : GuestCore) (n : Name) (t : CoreTrack MachineState) (h
         core-now = core-stood (record i { regions = j.regions; lead = j.lead; loans = j.loans; entries = j.entries }) (lent_core k seat n) (lent-stands may)
 
         lent-to : IsLoanOf w seat n
-        lent-to =
-            (record { seat = seat; name = n; dropped = None },
-            ap (λ (c : GuestCore). find_loan n c.loans) core-now
-            ∙ find_loan-new k.loans (record { seat = seat; name = n; dropped = None }) (find_loan-home k n (stands-sound i k h).named (t, can.found) (home-lent k n can.home)),
-            refl)
+        lent-to = (
+          record { seat = seat; name = n; dropped = None },
+          ap (λ (c : GuestCore). find_loan n c.loans) core-now
+              ∙ find_loan-new k.loans (record { seat = seat; name = n; dropped = None }) (find_loan-home k n (stands-sound i k h).named (t, can.found) (home-lent k n can.home)),
+          refl,
+        )
 
         here : (view : Posted) → view_of_board i ≡ view → IsLent view w seat (record loan { name = n })
         here view is = record {
@@ -364,12 +370,12 @@ module _ (i : Inside) (k : GuestCore) (n : Name) (t : CoreTrack MachineState) (h
           live = t;
           found = ap (λ (c : GuestCore). find_track c n) (ap core_of (sym is) ∙ core-stood i k h) ∙ can.found;
           track =
-            subst (λ (u : Posted). TrackStands u.input u.settings.budget loan.track true t) is
-            (subst (λ (y : Track). TrackStands i.input.value i.settings.budget y true t) (sym track) now-out.track);
+              subst (λ (u : Posted). TrackStands u.input u.settings.budget loan.track true t) is
+              (subst (λ (y : Track). TrackStands i.input.value i.settings.budget y true t) (sym track) now-out.track);
           input = input ∙ ap (λ (u : Posted). u.input) is;
           own =
-            subst (λ (u : Posted). (view_of loan.track).own ≤ u.settings.budget) is
-            (subst (λ (y : Track). (view_of y).own ≤ i.settings.budget) (sym track) (let budget = now-out.track.budget in omega (arith, within)));
+              subst (λ (u : Posted). (view_of loan.track).own ≤ u.settings.budget) is
+              (subst (λ (y : Track). (view_of y).own ≤ i.settings.budget) (sym track) (let budget = now-out.track.budget in omega (arith, within)));
           loan_of = lent-to;
           still = ap (λ (c : GuestCore). find_track c n) core-now ∙ can.found;
         }

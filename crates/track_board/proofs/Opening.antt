@@ -1,5 +1,5 @@
 -- A new board.
-use Rattle.std.proofs.Common.{◌≡◌, ℕ, ◌+◌, ◌*◌, ◌<◌, ◌≤◌, true, false, List, [], length, Option, Some, None, vec_len, vec_capacity, refl, sym, ap, ◌∙◌, subst, arith}
+use Rattle.std.proofs.Common.{◌≡◌, ℕ, ◌+◌, ◌≤◌, true, false, List, [], Some, None, vec_len, vec_capacity, refl, sym, ap, subst, arith}
 use Rattle.std.specs.List.{All}
 use Rattle.speculation.specs.declared.tracks.Kind.TheVariants.{Segment}
 use Rattle.speculation.specs.declared.history.Entry.{Entry}
@@ -10,7 +10,6 @@ use Rattle.guest_model.specs.AreaMap.{IsLayout}
 use Rattle.guest_model.specs.MachineState.{MachineState}
 use Rattle.rv32_law.proofs.Starts.{start-is-guest}
 use Rattle.region_ledger.specs.Ledger.{ledger_rows}
-use Rattle.region_ledger.specs.declared.row.Row.{Row}
 use Rattle.seniority_queue.specs.Listing.{Listing, empty_listing}
 use Rattle.track_state.specs.Views.{TrackView, view_of, begun, core_track}
 use Rattle.track_state.specs.Runs.{RunsOver}
@@ -20,7 +19,6 @@ use Rattle.track_board.specs.Parts.{TrackStands, RegionsStand, ready_marks, core
 use Rattle.track_board.specs.Invariant.{view_of_board, home_at, StandsFor}
 use Rattle.track_board.specs.declared.board.Board.TheInside.{Inside}
 use Rattle.track_board.specs.declared.loan.Lent.{Lent}
-use Rattle.track_board.specs.declared.ready.Ready.{Ready}
 use Rattle.track_board.specs.declared.region.Region.{Region}
 use Rattle.track_board.specs.declared.slot.Slot.TheVariants.{Home}
 

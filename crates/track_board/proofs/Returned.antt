@@ -1,7 +1,7 @@
 -- A lead that comes home.
-use Rattle.std.proofs.Common.{◌≡◌, ℕ, ◌+◌, ◌-◌, ◌≤◌, Bool, true, false, not, ◌&&◌, ◌||◌, if◌then◌else◌, List, [], ◌∷◌, ◌++◌, Option, Some, None, is_none, nat_eq, vec_len, vec_capacity, refl, sym, ap, ap₂, ◌∙◌, subst, eq-eqb, arith}
+use Rattle.std.proofs.Common.{◌≡◌, ℕ, ◌+◌, Bool, true, false, not, ◌&&◌, List, [], ◌∷◌, ◌++◌, Option, Some, None, is_none, nat_eq, refl, sym, ap, ap₂, ◌∙◌, subst, eq-eqb, arith}
 use Rattle.std.proofs.Math.Path.{fun_ext}
-use Rattle.std.proofs.lemmas.Bool.{and_from, and_parts, and_right}
+use Rattle.std.proofs.lemmas.Bool.{and_from, and_right}
 use Rattle.std.proofs.lemmas.Option.{same_Some}
 use Rattle.speculation.specs.declared.tracks.Name.{Name}
 use Rattle.speculation.specs.declared.tracks.OpenLoan.{OpenLoan}
@@ -11,9 +11,7 @@ use Rattle.speculation.specs.Core.{Track as CoreTrack, over, name_eq, is_lent, i
 use Rattle.speculation.specs.Events.{event, run_on, slice, end_loan, back_of, back_regions, back_lead, some_if}
 use Rattle.speculation.specs.Serial.{slice_of}
 use Rattle.guest_model.specs.MachineState.{MachineState}
-use Rattle.speculation_law.specs.Sound.{one_if}
-use Rattle.speculation_law.specs.Naming.{Sound}
-use Rattle.speculation_law.proofs.Names.{FoundTrack, Original, Lead, find_track-found, name_eq-true, is_lent-back, is_lent-found}
+use Rattle.speculation_law.proofs.Names.{FoundTrack, Original, Lead, find_track-found, is_lent-back, is_lent-found}
 use Rattle.speculation_law.proofs.FindLoan.{find_loan-name}
 use Rattle.speculation_law.proofs.Happens.{back_core}
 use Rattle.track_state.specs.Views.{view_of}
@@ -21,14 +19,14 @@ use Rattle.track_state.specs.declared.track.Track.{Track}
 use Rattle.track_board.specs.Value.{Posted, GuestCore, machine_of, run_of, core_of, posted}
 use Rattle.track_board.specs.Parts.{TrackStands, SlotStands, RegionsStand, core_loan, core_loans, away_own}
 use Rattle.track_board.specs.Loans.{HasRunOn, IsTaken}
-use Rattle.track_board.specs.Invariant.{view_of_board, home_at, StandsFor}
+use Rattle.track_board.specs.Invariant.{view_of_board, StandsFor}
 use Rattle.track_board.specs.declared.board.Board.TheInside.{Inside}
 use Rattle.track_board.specs.declared.loan.Lent.{Lent}
 use Rattle.track_board.specs.declared.slot.Slot.{Slot}
 use Rattle.track_board.specs.declared.slot.Slot.TheVariants.{Home, Away}
 use Rattle.track_board.proofs.Foundation.{legal-more, core-seen, core-stood, stands-sound, own-home}
 use Rattle.track_board.proofs.Lents.{is_lent-ended}
-use Rattle.track_board.proofs.Gone.{EndsLoan, found-core, loans-core, keys-after}
+use Rattle.track_board.proofs.Gone.{EndsLoan, loans-core, keys-after}
 
 -- a live loan of a core that isn't over, and its track
 pub record LiveLoan (k : GuestCore) (n : Name) (l : OpenLoan) : Type 0 where

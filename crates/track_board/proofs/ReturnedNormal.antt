@@ -1,15 +1,13 @@
 -- An original that comes home.
-use Rattle.std.proofs.Common.{◌≡◌, ◌≢◌, ℕ, zero, suc, ◌+◌, ◌-◌, ◌<◌, ◌≤◌, Bool, true, false, not, ◌&&◌, if◌then◌else◌, List, [], ◌∷◌, ◌++◌, Option, Some, None, length, slice_get, find, option_map, set, length-set, nat_eq, vec_len, vec_capacity, refl, sym, ap, ◌∙◌, inl, inr, subst, eq-eqb, ne_eqb, eqb-true, arith}
+use Rattle.std.proofs.Common.{◌≡◌, ◌≢◌, ℕ, zero, suc, ◌+◌, ◌<◌, ◌≤◌, Bool, true, false, not, ◌&&◌, if◌then◌else◌, List, [], ◌∷◌, ◌++◌, Option, Some, length, slice_get, find, option_map, set, length-set, nat_eq, refl, sym, ap, ◌∙◌, inl, inr, subst, eq-eqb, ne_eqb, arith}
 use Rattle.std.proofs.lemmas.Bool.{cases_Bool, and_right, and_left}
 use Rattle.std.proofs.lemmas.Option.{none-some, same_Some}
-use Rattle.std.specs.Prelude.{All}
 use Rattle.speculation.specs.declared.tracks.Name.{Name}
-use Rattle.speculation.specs.declared.tracks.OpenLoan.{OpenLoan}
 use Rattle.speculation.specs.declared.history.Settings.{Settings}
 use Rattle.speculation.specs.declared.history.Entry.{Entry}
 use Rattle.speculation.specs.declared.history.Entry.TheVariants as E
 use Rattle.speculation.specs.Machine.{Machine}
-use Rattle.speculation.specs.Core.{Track as CoreTrack, Region as CoreRegion, over, name_eq, is_lent, is_named, at_home, lead_name, find_loan, find_normal, find_track}
+use Rattle.speculation.specs.Core.{Track as CoreTrack, Region as CoreRegion, is_lent, is_named, at_home, lead_name, find_normal, find_track}
 use Rattle.speculation.specs.Events.{event, run_on, slice, end_loan, back_normals, back_regions, back_lead}
 use Rattle.guest_model.specs.MachineState.{MachineState}
 use Rattle.guest_model.specs.declared.end.End.{End}
@@ -22,7 +20,7 @@ use Rattle.speculation_law.proofs.FindLoan.{find_loan-name}
 use Rattle.speculation_law.proofs.Names.{FoundTrack, Original, Lead, find_track-found}
 use Rattle.track_state.specs.Views.{view_of}
 use Rattle.track_state.specs.declared.track.Track.{Track}
-use Rattle.track_board.specs.Value.{Posted, GuestCore, machine_of, run_of}
+use Rattle.track_board.specs.Value.{GuestCore, machine_of, run_of}
 use Rattle.track_board.specs.Parts.{TrackStands, SlotStands, RegionStands, RegionsStand, KeyFinds, LoanFinds, away_own, core_loan}
 use Rattle.track_board.specs.Invariant.{view_of_board, home_at, StandsFor}
 use Rattle.track_board.specs.declared.board.Board.TheInside.{Inside}

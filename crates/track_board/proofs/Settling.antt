@@ -1,10 +1,9 @@
 -- Due events, one after another, come to an end.
-use Rattle.std.proofs.Common.{◌≡◌, ℕ, suc, ◌+◌, ◌<◌, true, List, [], ◌∷◌, ◌++◌, Option, Some, None, is_some, length, vec_len, length-append, refl, sym, ap, ◌∙◌, subst, arith}
+use Rattle.std.proofs.Common.{◌≡◌, ℕ, suc, ◌+◌, ◌<◌, true, [], ◌∷◌, Option, Some, None, is_some, length, vec_len, length-append, refl, sym, ap, ◌∙◌, subst, arith}
 use Rattle.speculation.specs.declared.history.Entry.{Entry}
 use Rattle.speculation.specs.Effects.{effect}
 use Rattle.speculation.specs.Events.{event}
 use Rattle.speculation.specs.Serial.{entry_of}
-use Rattle.guest_model.specs.MachineState.{MachineState}
 use Rattle.rv32_law.specs.GuestStates.{IsGuestState}
 use Rattle.rv32_law.proofs.Differences.{exact-rv32}
 use Rattle.speculation_law.specs.Naming.{Sound}

@@ -1,9 +1,9 @@
 -- Going over the open regions, oldest first, until one of them passes a test.
 use Rattle.std.proofs.Common.{◌≡◌, ℕ, zero, suc, ◌+◌, ◌-◌, ◌<◌, Bool, true, false, if◌then◌else◌, List, [], ◌∷◌, ◌++◌, Option, Some, None, option_map, length, drop, find, slice_get, get_or, refl, sym, ap, ◌∙◌, subst, arith}
 use Rattle.std.proofs.lemmas.Option.{none-some, same_Some, get_or_from_slice_get, slice_get_within}
-use Rattle.seniority_queue.specs.Listing.{LiveNode, Listing, get, first_key, last_key, key_after, with_value, IsSound}
+use Rattle.seniority_queue.specs.Listing.{LiveNode, Listing, get, first_key, last_key, key_after, IsSound}
 use Rattle.seniority_queue.specs.declared.key.Key.{Key}
-use Rattle.seniority_queue.proofs.KeyLemmas.{get-of_place, key_after-of_place, with_value-of_place}
+use Rattle.seniority_queue.proofs.KeyLemmas.{get-of_place, key_after-of_place}
 use Rattle.track_board.specs.declared.region.Region.{Region}
 use Rattle.track_board.specs.LendTests.{last_region, is_numbered, numbered}
 use Rattle.track_board.proofs.Queues.{IsYoungest, youngest, no_youngest}
@@ -91,8 +91,8 @@ module _ (q : Listing Region) (test : Region → Bool) where
         place = suc s.place;
         is = next-is ∙ ap (λ (k : ℕ). option_map (λ n. n.key) (slice_get q.nodes k)) one-more;
         rest =
-          sym (ap (λ (b : Bool). if b then Some here.node else find (λ n. test n.value) (drop (suc s.place) q.nodes)) (ap test value-is ∙ fails))
-          ∙ sym (find-from q.nodes s.place here.node here.at) ∙ s.rest;
+            sym (ap (λ (b : Bool). if b then Some here.node else find (λ n. test n.value) (drop (suc s.place) q.nodes)) (ap test value-is ∙ fails))
+            ∙ sym (find-from q.nodes s.place here.node here.at) ∙ s.rest;
       }
 
     -- fewer names are left behind it
@@ -116,8 +116,8 @@ module _ (q : Listing Region) (test : Region → Bool) where
             let first : get_or q.nodes s.place n ≡ here.node = get_or_from_slice_get q.nodes s.place here.node n here.at in
             let second : get_or q.nodes (s.place + 1) n ≡ n = get_or_from_slice_get q.nodes (s.place + 1) n n found in
             let order : key.name < n.key.name =
-                subst (λ (k : Key). k.name < n.key.name) here.key_is
-                (subst (λ (x : LiveNode Region). x.key.name < n.key.name) first (subst (λ (x : LiveNode Region). (get_or q.nodes s.place n).key.name < x.key.name) second rise)) in
+            subst (λ (k : Key). k.name < n.key.name) here.key_is
+            (subst (λ (x : LiveNode Region). x.key.name < n.key.name) first (subst (λ (x : LiveNode Region). (get_or q.nodes s.place n).key.name < x.key.name) second rise)) in
             omega (arith, below, mine, order)
 
   -- no region is left

@@ -1,7 +1,6 @@
 -- The fields of a board stand for the core that its entries lead to
-use Rattle.std.specs.Prelude.{◌≡◌, ℕ, ◌+◌, ◌*◌, ◌≤◌, Bool, true, not, List, length, All, Some, option_map, vec_len, vec_capacity}
+use Rattle.std.specs.Prelude.{◌≡◌, ℕ, ◌+◌, ◌*◌, ◌≤◌, Bool, true, not, length, All, Some, option_map, vec_len, vec_capacity}
 use Rattle.speculation.specs.Core.{over, at_home, lead_home}
-use Rattle.guest_model.specs.Image.{start_of}
 use Rattle.region_ledger.specs.Ledger.{core_finished, ledger_rows}
 use Rattle.rv32_law.specs.GuestStates.{IsGuestState}
 use Rattle.speculation_law.specs.Sound.{one_if}

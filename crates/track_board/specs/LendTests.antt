@@ -1,7 +1,6 @@
 -- The tests that find what may be lent, over the fields of a board: what the code looks at
 use Rattle.std.specs.Prelude.{ℕ, Bool, true, false, List, [], ◌∷◌, Option, Some, None, option_map, find, if◌then◌else◌, nat_eq, nat_lt}
 use Rattle.speculation.specs.declared.tracks.Name.{Name}
-use Rattle.speculation.specs.declared.tracks.Kind.{Kind}
 use Rattle.speculation.specs.declared.tracks.Kind.TheVariants.{Fast}
 use Rattle.speculation.specs.Core.{is_kind, held_size, most_held}
 use Rattle.seniority_queue.specs.Listing.{LiveNode}

@@ -1,10 +1,10 @@
 -- What a board does by itself, and what it hands out
-use Rattle.std.specs.Prelude.{◌≡◌, ℕ, zero, suc, false, ◌-◌, List, [], ◌∷◌, Option, Some, None, option_map, length}
+use Rattle.std.specs.Prelude.{◌≡◌, ℕ, zero, suc, false, List, [], ◌∷◌, Option, Some, None, option_map, length}
 use Rattle.speculation.specs.declared.tracks.Name.{Name}
 use Rattle.speculation.specs.declared.history.Entry.{Entry}
 use Rattle.speculation.specs.declared.history.Entry.TheVariants as E
 use Rattle.speculation.specs.Run.{Mark}
-use Rattle.speculation.specs.Core.{Core, Finished as CoreFinished, verified}
+use Rattle.speculation.specs.Core.{Finished as CoreFinished, verified}
 use Rattle.speculation.specs.Due.{Due as CoreDue, Finishing, Crossing, Judging, Forking, due}
 use Rattle.speculation.specs.Serial.{entry_of}
 use Rattle.guest_model.specs.MachineState.{MachineState}

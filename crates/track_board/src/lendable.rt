@@ -14,12 +14,7 @@ use track_state::Track;
 
 /// Whether the track of this name, which is of the present generation, is at home and may go out. `last` is the number of the
 /// last region.
-pub(crate) fn named_may_go(
-    regions: &Queue<Region>,
-    lead: &Slot,
-    last: u64,
-    name: Name,
-) -> bool
+pub(crate) fn named_may_go(regions: &Queue<Region>, lead: &Slot, last: u64, name: Name) -> bool
     ensures { result ≡ named_may_go last name regions.now.nodes lead.now }
 {
     if name.normal {

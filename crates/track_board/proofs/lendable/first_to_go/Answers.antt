@@ -1,4 +1,4 @@
-use Rattle.std.proofs.Common.{◌≡◌, ◌<◌, Bool, Option, Some, None, option_map, sym, ap, ◌∙◌, subst}
+use Rattle.std.proofs.Common.{◌<◌, Option, option_map, sym, ap, ◌∙◌, subst}
 use Rattle.seniority_queue.specs.Listing.{LiveNode}
 use Rattle.seniority_queue.specs.declared.key.Key.{Key}
 use Rattle.track_board.specs.declared.region.Region.{Region}
@@ -10,7 +10,7 @@ pub returns-then-may_go : goal.returns-then-may_go
 returns-then-may_go c =
     let q = c.args.regions.now in
     sym (sought-number q (λ (x : Region). may_go x.normal q.nodes) c.get.ensures.sound c.loop-next.next c.in-Some.key c.loop-next.invariant c.in-Some.is c.in_ok-region.region.now c.in_ok-region.ensures.value
-      (sym c.may_go.ensures ∙ c.if-may_go.true))
+    (sym c.may_go.ensures ∙ c.if-may_go.true))
 
 pub loop-next-smaller : goal.loop-next-smaller
 loop-next-smaller c =
@@ -23,7 +23,7 @@ loop-next-preserved c =
     let q = c.args.regions.now in
     subst (SoughtFrom q (λ (x : Region). may_go x.normal q.nodes)) (sym c.after-next.ensures.key)
     (sought-next q (λ (x : Region). may_go x.normal q.nodes) c.get.ensures.sound c.loop-next.next c.in-Some.key c.loop-next.invariant c.in-Some.is c.in_ok-region.region.now c.in_ok-region.ensures.value
-      (sym c.may_go.ensures ∙ c.if-may_go.false))
+    (sym c.may_go.ensures ∙ c.if-may_go.false))
 
 pub returns : goal.returns
 returns c =

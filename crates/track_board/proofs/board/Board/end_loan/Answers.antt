@@ -1,9 +1,8 @@
-use Rattle.std.proofs.Common.{◌≡◌, ◌⊎◌, inl, inr, ℕ, true, Bool, Option, Some, is_some, sym, ap, ◌∙◌, subst}
-use Rattle.speculation.specs.declared.tracks.OpenLoan.{OpenLoan}
+use Rattle.std.proofs.Common.{◌≡◌, ◌⊎◌, inl, inr, ℕ, true, Bool, Some, is_some, sym, ap, ◌∙◌, subst}
 use Rattle.speculation.specs.Core.{over, find_loan}
 use Rattle.speculation.specs.Events.{gone_live}
 use Rattle.track_board.specs.Value.{GuestCore, core_of}
-use Rattle.track_board.specs.Parts.{core_loan, core_loans}
+use Rattle.track_board.specs.Parts.{core_loan}
 use Rattle.track_board.specs.Loans.{halted_by, WasDropped}
 use Rattle.track_board.specs.Invariant.{view_of_board, StandsFor}
 use Rattle.track_board.specs.declared.board.Board.TheInside.{Inside}

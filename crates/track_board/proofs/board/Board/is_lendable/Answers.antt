@@ -1,5 +1,5 @@
 use Rattle.std.proofs.Common.{sym, ◌∙◌}
-use Rattle.track_board.proofs.LendTests.{over-unlent, other-unlent, named-lends}
+use Rattle.track_board.proofs.LendTests.{over-unlent, named-lends}
 use Rattle.track_board.proofs.board.Board.is_lendable.Goals as goal
 
 pub returns-then-over-clause-lendable : goal.returns-then-over-clause-lendable

@@ -1,9 +1,9 @@
-use Rattle.std.proofs.Common.{◌≡◌, ◌+◌, ◌≤◌, List, ◌∷◌, [], ◌++◌, None, true, vec_len, vec_capacity, refl, sym, ap, ◌∙◌, arith}
+use Rattle.std.proofs.Common.{◌≡◌, List, ◌∷◌, [], ◌++◌, None, true, refl, sym, ap, ◌∙◌, arith}
 use Rattle.speculation.specs.declared.history.Entry.{Entry}
 use Rattle.speculation.specs.declared.history.Entry.TheVariants as E
 use Rattle.speculation.specs.Events.{lendable}
 use Rattle.speculation_law.proofs.Happens.{lent_core}
-use Rattle.speculation_law.proofs.Lending.{SomeLendable, lendable-true}
+use Rattle.speculation_law.proofs.Lending.{lendable-true}
 use Rattle.guest_model.specs.Rv32.{rv32}
 use Rattle.track_board.specs.declared.board.Board.TheInside.{Inside}
 use Rattle.track_board.specs.declared.loan.Lent.{Lent}
@@ -52,9 +52,11 @@ pub returns-clause-loan : goal.returns-clause-loan
 returns-clause-loan c =
     let i = c.self.inside in
     let k = c.self.invariant.0 in
-    let can = lendable-true (rv32 i.input.value) i.settings k c.args.name (can-lend c) in
-    (lent-is i k c.args.name can.track c.self.invariant.1 can.is (after c) c.args.seat c.take_out-track.result.0 c.take_out-track.result.1 (lending c) c.args.self.now _ c.self.view_is (can-lend c)
-    refl refl c.in_ok-input.ensures c.take_out-track.ensures.within, refl)
+    let can = lendable-true (rv32 i.input.value) i.settings k c.args.name (can-lend c) in (
+      lent-is i k c.args.name can.track c.self.invariant.1 can.is (after c) c.args.seat c.take_out-track.result.0 c.take_out-track.result.1 (lending c) c.args.self.now _ c.self.view_is (can-lend c)
+          refl refl c.in_ok-input.ensures c.take_out-track.ensures.within,
+      refl,
+    )
 
 pub returns-clause-known : goal.returns-clause-known
 returns-clause-known c =

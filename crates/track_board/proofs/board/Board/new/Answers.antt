@@ -1,4 +1,4 @@
-use Rattle.std.proofs.Common.{None, false, sym, ap, ◌∙◌, subst, ◌≡◌, ◌+◌, ◌≤◌, vec_len, vec_capacity}
+use Rattle.std.proofs.Common.{None, false, sym, ap, ◌∙◌, subst, ◌≡◌}
 use Rattle.speculation.specs.declared.tracks.Kind.TheVariants.{Segment}
 use Rattle.guest_model.specs.Image.{start_of}
 use Rattle.guest_model.specs.AreaMap.{IsLayout}

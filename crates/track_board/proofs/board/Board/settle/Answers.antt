@@ -1,5 +1,4 @@
-use Rattle.std.proofs.Common.{◌≡◌, Some, is_some, true, sym, ◌∙◌}
-use Rattle.track_board.specs.Settles.{Acted}
+use Rattle.std.proofs.Common.{sym, ◌∙◌}
 use Rattle.track_board.proofs.Settling.{acted-some, acted-falls, settling-first, settling-more}
 use Rattle.track_board.proofs.board.Board.settle.Goals as goal
 

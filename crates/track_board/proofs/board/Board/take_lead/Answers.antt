@@ -1,19 +1,16 @@
-use Rattle.std.proofs.Common.{◌≡◌, ◌+◌, ◌-◌, ℕ, true, false, List, [], ◌∷◌, ◌++◌, Some, sym, ap, ◌∙◌, subst, arith}
-use Rattle.speculation.specs.declared.history.Entry.{Entry}
+use Rattle.std.proofs.Common.{◌≡◌, ℕ, true, [], ◌∷◌, ◌++◌, Some, sym, ap, ◌∙◌, subst, arith}
 use Rattle.speculation.specs.declared.history.Entry.TheVariants as E
 use Rattle.speculation.specs.Core.{Track as CoreTrack, over, find_loan, find_track}
 use Rattle.speculation.specs.Events.{run_on, slice}
 use Rattle.guest_model.specs.MachineState.{MachineState}
-use Rattle.track_state.specs.Views.{view_of}
 use Rattle.track_board.specs.Value.{GuestCore, machine_of}
-use Rattle.track_board.specs.Parts.{TrackStands, away_own}
+use Rattle.track_board.specs.Parts.{TrackStands}
 use Rattle.track_board.specs.Invariant.{view_of_board, StandsFor}
 use Rattle.track_board.specs.declared.board.Board.TheInside.{Inside}
 use Rattle.track_board.specs.declared.slot.Slot.{Slot}
-use Rattle.track_board.specs.declared.slot.Slot.TheVariants.{Home}
 use Rattle.track_board.proofs.Foundation.{core-seen, known}
 use Rattle.track_board.proofs.Gone.{EndsLoan}
-use Rattle.track_board.proofs.Returned.{LiveLoan, ran-here, back-entry, lead-found, taken, lead-count, lead_back, lead-stands}
+use Rattle.track_board.proofs.Returned.{LiveLoan, ran-here, back-entry, lead-found, lead-count, lead_back, lead-stands}
 use Rattle.track_board.proofs.board.Board.take_lead.Goals as goal
 
 pub take_lent-requires : goal.take_lent-requires

@@ -1,19 +1,14 @@
-use Rattle.std.proofs.Common.{◌≡◌, ◌+◌, ◌-◌, ◌≤◌, ℕ, true, false, List, [], ◌∷◌, ◌++◌, Some, sym, ap, ◌∙◌, subst, arith}
+use Rattle.std.proofs.Common.{◌≡◌, ℕ, true, [], ◌∷◌, ◌++◌, Some, sym, ap, ◌∙◌, arith}
 use Rattle.std.proofs.lemmas.Option.{same_Some}
-use Rattle.std.specs.Prelude.{slice_get}
 use Rattle.speculation.specs.declared.history.Entry.TheVariants as E
-use Rattle.speculation.specs.declared.tracks.OpenLoan.{OpenLoan}
-use Rattle.speculation.specs.Core.{Track as CoreTrack, over, find_loan, find_track}
+use Rattle.speculation.specs.Core.{Track as CoreTrack, find_loan, find_track}
 use Rattle.speculation.specs.Events.{run_on, slice}
 use Rattle.guest_model.specs.MachineState.{MachineState}
-use Rattle.seniority_queue.specs.Listing.{get, with_value}
-use Rattle.seniority_queue.specs.declared.key.Key.{Key}
-use Rattle.track_state.specs.Views.{view_of}
+use Rattle.seniority_queue.specs.Listing.{with_value}
 use Rattle.track_board.specs.Value.{GuestCore, machine_of}
-use Rattle.track_board.specs.Parts.{TrackStands, core_loan, core_loans, away_own, KeyFinds}
+use Rattle.track_board.specs.Parts.{TrackStands, core_loan, away_own}
 use Rattle.track_board.specs.Invariant.{view_of_board, StandsFor}
 use Rattle.track_board.specs.declared.board.Board.TheInside.{Inside}
-use Rattle.track_board.specs.declared.loan.Lent.{Lent}
 use Rattle.track_board.specs.declared.region.Region.{Region}
 use Rattle.track_board.specs.declared.slot.Slot.TheVariants.{Home}
 use Rattle.track_board.proofs.Foundation.{core-seen, known}
