@@ -24,3 +24,5 @@ pub mod ReturnedNormal
 pub mod Walks
 pub mod LendTests
 pub mod Lends
+pub mod Others
+pub mod Seats

@@ -10,3 +10,4 @@ pub mod Discarding
 pub mod Releasing
 pub mod LendTests
 pub mod Lends
+pub mod Others

@@ -16,6 +16,7 @@ mod lendable;
 mod lending;
 mod lent;
 mod loan;
+pub mod loan_laws;
 mod outcome;
 mod place;
 mod ready;
@@ -31,3 +32,6 @@ pub use loan::{Back, Loan};
 pub use outcome::Outcome;
 pub use region_ledger::Finished;
 pub use speculation::{Entry, Name, Settings};
+
+#[cfg(test)]
+mod tests;
