@@ -32,6 +32,3 @@ pub use loan::{Back, Loan};
 pub use outcome::Outcome;
 pub use region_ledger::Finished;
 pub use speculation::{Entry, Name, Settings};
-
-#[cfg(test)]
-mod tests;
