@@ -37,7 +37,8 @@ module _ {S E D : Type 0} (m : Machine S E D) (b : Settings) where
   released-judged c v Stopped = refl
   released-judged c v Late = refl
 
-  released-due : (c : Core S E D) (d : Due S E D) → (effect m b c d).released ≡ c.released
+  -- a due event releases nothing
+  pub released-due : (c : Core S E D) (d : Due S E D) → (effect m b c d).released ≡ c.released
   released-due c (Finishing f) = refl
   released-due c Crossing = refl
   released-due c (Judging v) = released-judged c v v.judged.verdict
@@ -47,7 +48,8 @@ module _ {S E D : Type 0} (m : Machine S E D) (b : Settings) where
   released-gone c n (Some row) = refl
   released-gone c n None = refl
 
-  released-happens : (c new : Core S E D) (x : Entry) → ((count : ℕ) → x ≡ Release count → ⊥) → Happens m b c new x → new.released ≡ c.released
+  -- nor does any entry but a release
+  pub released-happens : (c new : Core S E D) (x : Entry) → ((count : ℕ) → x ≡ Release count → ⊥) → Happens m b c new x → new.released ≡ c.released
   released-happens c new x never (Lends seat n t entry can is) = sym (ap (λ (k : Core S E D). k.released) is)
   released-happens c new x never (Returns n count l t entry live loan undropped found counted is) = sym (ap (λ (k : Core S E D). k.released) is)
   released-happens c new x never (Vanishes n l entry loan is) = sym (ap (λ (k : Core S E D). k.released) is) ∙ released-gone c n l.dropped

@@ -48,7 +48,8 @@ module _ {S E D : Type 0} (m : Machine S E D) (b : Settings) where
   none-left [] h = refl
   none-left (x ∷ ms) h = absurd (omega arith)
 
-  ended-idle : (start : S) (c : Core S E D) → Sound m b start c → Solo c → 0 < b.tracks → serial_next m b c ≡ None → Ended c
+  -- a solo core that is sound and after which nothing comes has a finish, and nothing is left to release
+  pub ended-idle : (start : S) (c : Core S E D) → Sound m b start c → Solo c → 0 < b.tracks → serial_next m b c ≡ None → Ended c
   ended-idle start c sound solo some h =
       let idle = idle-by c (due m b c) (nat_lt 0 (length (verified b c))) (first_lendable m b c c.regions) h in
       let none = ltb-false 0 (length (verified b c)) idle.unshown in
@@ -57,16 +58,16 @@ module _ {S E D : Type 0} (m : Machine S E D) (b : Settings) where
       record { finished = finish.0; is = finish.1; released = none-left (verified b c) none }
 
   -- a round of a solo core
-  record Stepped (start : S) (c new : Core S E D) (xs : List Entry) : Type 0 where
-    leads : core_run m b (Some c) xs ≡ Some new
-    solo : Solo new
-    falls : weigh b (digits_of b new) < weigh b (digits_of b c)
+  pub record Stepped (start : S) (c new : Core S E D) (xs : List Entry) : Type 0 where
+    pub leads : core_run m b (Some c) xs ≡ Some new
+    pub solo : Solo new
+    pub falls : weigh b (digits_of b new) < weigh b (digits_of b c)
 
-  record SomeStep (start : S) (c : Core S E D) (xs : List Entry) : Type 0 where
-    new : Core S E D
-    step : Stepped start c new xs
+  pub record SomeStep (start : S) (c : Core S E D) (xs : List Entry) : Type 0 where
+    pub new : Core S E D
+    pub step : Stepped start c new xs
 
-  step-round : (start : S) (c : Core S E D) (xs : List Entry) → Exact m start → Sound m b start c → Solo c → Round m b c xs → SomeStep start c xs
+  pub step-round : (start : S) (c : Core S E D) (xs : List Entry) → Exact m start → Sound m b start c → Solo c → Round m b c xs → SomeStep start c xs
   step-round start c xs exact sound solo (DueRound d is leads) =
       let after = sound-on m b start xs c (effect m b c d) exact sound leads in
       record { new = effect m b c d; step = record { leads = leads; solo = solo-due m b c d solo; falls = falls-due m b start c d sound.good sound.bounded is after.bounded } }

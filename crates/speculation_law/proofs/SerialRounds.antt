@@ -131,7 +131,8 @@ module _ {S E D : Type 0} (m : Machine S E D) (b : Settings) where
   held-released limit [] lead = marks_upto-left_over limit lead.held
   held-released limit (r ∷ rs) lead = marks_upto-left_over limit r.normal.held
 
-  verified-released : (c : Core S E D) (bytes : List Mark) → verified b (released_by true (b.budget - c.base) c bytes) ≡ []
+  -- nothing is left to release after a release with the front at home
+  pub verified-released : (c : Core S E D) (bytes : List Mark) → verified b (released_by true (b.budget - c.base) c bytes) ≡ []
   unfolding verified
   verified-released c bytes =
       empty-either (front_home (released_by true (b.budget - c.base) c bytes)) (marks_upto (b.budget - c.base) (front_of (released_regions (b.budget - c.base) c.regions) (released_lead (b.budget - c.base) c.regions c.lead)).held)
