@@ -2,5 +2,4 @@ pub mod OnLines
 pub mod OnPlans
 pub mod OnReading
 pub mod OnReports
-pub mod OnStreams
 pub mod OnTexts

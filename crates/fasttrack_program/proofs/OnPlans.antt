@@ -8,7 +8,7 @@ use Rattle.elf32_loader.specs.LoadedImage.{image_of_loaded}
 use Rattle.elf32_loader.specs.declared.loaded.Loaded.{Loaded}
 use Rattle.basic_types.specs.declared.bytes.Bytes.{Bytes}
 use Rattle.guest_model.specs.Image.{Image, program_alone}
-use Rattle.fasttrack_program.specs.GuestStreams.{Sinks}
+use Rattle.guest_streams.specs.GuestStreams.{Sinks}
 use Rattle.program_words.specs.CommandLine.{Request}
 use Rattle.program_words.specs.declared.request.Task.TheVariants.{Alone, Trial}
 use Rattle.fasttrack_program.specs.Plan.{Plan, Refused, Runs, LongInput, image_in, input_limit, with_image, with_input, plan}
@@ -17,7 +17,7 @@ use Rattle.fasttrack_program.specs.AnswerLine.{HasNumbers, IsSaidFor, Concludes}
 use Rattle.fasttrack_program.specs.TopCall.{task_output, StaysWithin, Serves, IsServed, IsAnswered}
 use Rattle.fasttrack_program.specs.declared.answer.Answer.{Answer}
 use Rattle.fasttrack_program.specs.declared.answer.Answer.TheVariants.{Exited, Trapped, Spent, Shown, Usage, ReadFault, ImageTooLong, BadImage, InputTooLong, WriteFault, NoMemory}
-use Rattle.fasttrack_program.proofs.OnStreams.{Gets-nothing, IsCalm-refl}
+use Rattle.guest_streams.proofs.OnStreams.{Gets-nothing, IsCalm-refl}
 
 -- some bytes that are told
 told_bytes : (told : Option (List ℕ)) → List ℕ

@@ -16,12 +16,12 @@ use Rattle.region_ledger.specs.declared.verdict.Verdict.{Verdict}
 use Rattle.region_ledger.specs.declared.verdict.Verdict.TheVariants.{Kept, Differs, Stopped, Late}
 use Rattle.region_trial.specs.Trials.{IsTrialOf}
 use Rattle.region_trial.specs.declared.trial.Trial.{Trial}
-use Rattle.fasttrack_program.specs.GuestStreams.{end_of, Sinks, GetsAll, GetsPart, IsNext, FailsAt, StopsShort}
+use Rattle.guest_streams.specs.GuestStreams.{end_of, Sinks, GetsAll, GetsPart, IsNext, FailsAt, StopsShort}
 use Rattle.fasttrack_program.specs.Reports.{report, told_verdict, told_row, program_report}
 use Rattle.fasttrack_program.specs.TextOnSink.{StoppedInText, WritesText}
-use Rattle.fasttrack_program.specs.declared.alone.OutputFault.{OutputFault}
-use Rattle.fasttrack_program.specs.declared.alone.OutputFault.TheVariants.{Write, NoMemory}
-use Rattle.fasttrack_program.proofs.OnStreams.{stream_bytes-own_1, marked-append, IsNext-marked, Gets-on_out}
+use Rattle.guest_streams.specs.declared.fault.OutputFault.{OutputFault}
+use Rattle.guest_streams.specs.declared.fault.OutputFault.TheVariants.{Write, NoMemory}
+use Rattle.guest_streams.proofs.OnStreams.{stream_bytes-own_1, marked-append, IsNext-marked, Gets-on_out}
 use Rattle.fasttrack_program.proofs.OnTexts.{WritesText-as}
 
 -- ---- the rows of the theory, as they are told

@@ -8,9 +8,9 @@ use Rattle.region_ledger.specs.declared.row.Row.{Row}
 use Rattle.report_text.specs.Reports.{row_line}
 use Rattle.fasttrack_program.specs.Reports.{rows_text}
 use Rattle.fasttrack_program.specs.TextOnSink.{GotBeginning, StoppedInText, WritesText}
-use Rattle.fasttrack_program.specs.declared.alone.OutputFault.{OutputFault}
-use Rattle.fasttrack_program.specs.declared.alone.OutputFault.TheVariants.{Write, NoMemory}
-use Rattle.fasttrack_program.proofs.OnStreams.{left_over}
+use Rattle.guest_streams.specs.declared.fault.OutputFault.{OutputFault}
+use Rattle.guest_streams.specs.declared.fault.OutputFault.TheVariants.{Write, NoMemory}
+use Rattle.guest_streams.proofs.OnStreams.{left_over}
 
 -- the same of a text by another name
 pub WritesText-as : {T : Type 0} (old new : Option (List ℕ)) (faults faults' : ℕ) (said text : List ℕ) (r : Result T OutputFault) → said ≡ text → WritesText old new faults faults' said r → WritesText old new faults faults' text r

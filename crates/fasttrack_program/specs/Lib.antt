@@ -1,6 +1,5 @@
 pub mod AnswerLine
 pub mod FaultTexts
-pub mod GuestStreams
 pub mod Plan
 pub mod Reading
 pub mod Reports

@@ -11,7 +11,7 @@ use Rattle.region_ledger.specs.declared.row.Row.{Row}
 use Rattle.region_ledger.specs.declared.verdict.Verdict.{Verdict}
 use Rattle.region_ledger.specs.declared.verdict.Verdict.TheVariants.{Kept, Differs, Stopped, Late}
 use Rattle.report_text.specs.Reports.{row_line, totals_line, end_line}
-use Rattle.fasttrack_program.specs.GuestStreams.{end_of}
+use Rattle.guest_streams.specs.GuestStreams.{end_of}
 
 -- ---- the text
 

@@ -2,8 +2,8 @@
 use Rattle.std.specs.Prelude.{◌≡◌, ℕ, ◌<◌, List, ◌++◌, length, Option, Result, Ok, Err}
 use Rattle.std.specs.Io.KnownBytes.{Appends}
 use Rattle.host_io.specs.Faults.{Rose}
-use Rattle.fasttrack_program.specs.declared.alone.OutputFault.{OutputFault}
-use Rattle.fasttrack_program.specs.declared.alone.OutputFault.TheVariants.{Write, NoMemory}
+use Rattle.guest_streams.specs.declared.fault.OutputFault.{OutputFault}
+use Rattle.guest_streams.specs.declared.fault.OutputFault.TheVariants.{Write, NoMemory}
 
 -- the sink got a beginning of the text, where it tells
 pub record GotBeginning (old new : Option (List ℕ)) (text : List ℕ) : Type 0 where

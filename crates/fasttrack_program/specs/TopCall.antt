@@ -7,7 +7,7 @@ use Rattle.guest_model.specs.declared.end.End.{End}
 use Rattle.guest_model.specs.declared.end.End.TheVariants as E
 use Rattle.elf32_loader.specs.FaultOf.{fault_of}
 use Rattle.elf32_loader.specs.declared.fault.ImageFault.{ImageFault}
-use Rattle.fasttrack_program.specs.GuestStreams.{Sinks, GetsAll, GetsPart, StopsShort, end_of}
+use Rattle.guest_streams.specs.GuestStreams.{Sinks, GetsAll, GetsPart, StopsShort, end_of}
 use Rattle.program_words.specs.CommandLine.{Request}
 use Rattle.program_words.specs.declared.request.Task.{Task}
 use Rattle.program_words.specs.declared.request.Task.TheVariants.{Alone, Trial}

@@ -7,21 +7,13 @@ ghost use Rattle.guest_model.specs.Flat.{flat_bytes};
 ghost use Rattle.guest_model.specs.Rv32.{rv32};
 ghost use Rattle.speculation.specs.Record.{alone};
 ghost use Rattle.speculation.specs.Run.{marked};
-ghost use Rattle.fasttrack_program.specs.GuestStreams.{Leaves, WritesPiece, PassesOn};
+ghost use Rattle.guest_streams.specs.GuestStreams.{Leaves, PassesOn};
 
 use guest_model::{End, FlatMemory, Memory, NoMemory, State};
-use host_io::{Failed, Sink, write_whole};
+use guest_streams::{OutputFault, write_piece};
+use host_io::{Failed, Sink};
 use rv32_step::{Stepped, step};
 use std::alloc::Global;
-
-/// Why a guest's output could not be written.
-#[derive(Debug, Clone, Copy, PartialEq, Eq)]
-pub enum OutputFault {
-    /// The sink failed.
-    Write,
-    /// There was no memory for a piece of the output.
-    NoMemory,
-}
 
 /// Runs a guest from `state` for at most `budget` instructions, and answers its end. Each piece that it writes goes at
 /// once to `out`, for stream 1, or to `notes`, for stream 2.
@@ -96,24 +88,4 @@ fn load_piece(
     buffer.resize(count as usize, 0)?;
     memory.copy_out(at, buffer.as_mut_slice());
     Ok(())
-}
-
-/// Writes a piece of the guest's output to the sink of its stream.
-fn write_piece<O: Sink, N: Sink>(
-    stream: u8,
-    piece: &[u8],
-    out: &mut O,
-    notes: &mut N,
-) -> Result<(), Failed>
-    requires { (stream ≡ 1) ⊎ (stream ≡ 2) }
-    ensures { WritesPiece
-        (record { out = O.contents out.old; out_faults = O.faults out.old; notes = N.contents notes.old; notes_faults = N.faults notes.old })
-        (record { out = O.contents out.new; out_faults = O.faults out.new; notes = N.contents notes.new; notes_faults = N.faults notes.new })
-        (marked stream piece.now) result }
-{
-    if stream == 1 {
-        write_whole(out, piece)
-    } else {
-        write_whole(notes, piece)
-    }
 }

@@ -4,7 +4,7 @@ ghost use Rattle.std.specs.Prelude.{ℕ, List};
 ghost use Rattle.host_io.specs.Faults.{Rose};
 ghost use Rattle.guest_model.specs.Image.{Image};
 ghost use Rattle.program_words.specs.declared.request.Task.TheVariants.{Trial};
-ghost use Rattle.fasttrack_program.specs.GuestStreams.{Sinks};
+ghost use Rattle.guest_streams.specs.GuestStreams.{Sinks};
 ghost use Rattle.fasttrack_program.specs.Plan.{Runs};
 ghost use Rattle.fasttrack_program.specs.Reports.{program_report};
 ghost use Rattle.fasttrack_program.specs.TextOnSink.{StoppedInText};

@@ -7,12 +7,13 @@ ghost use Rattle.program_words.specs.declared.request.Task.TheVariants.{Alone};
 ghost use Rattle.fasttrack_program.specs.Plan.{Runs};
 ghost use Rattle.fasttrack_program.specs.TopCall.{Serves, IsServed, IsRefusedEarly};
 
-use crate::alone::{OutputFault, run_alone};
+use crate::alone::run_alone;
 use crate::answer::Answer;
 use crate::read::{read_image, read_input};
 use crate::show_trial::show_trial;
 use elf32_loader::Loaded;
 use guest_model::{Bytes, End, FlatMemory, Regs, State};
+use guest_streams::OutputFault;
 use host_io::{Files, Sink, Source};
 use program_words::{Request, Task};
 use std::alloc::Global;

@@ -6,7 +6,7 @@ ghost use Rattle.program_words.specs.declared.request.Task.TheVariants.{Trial};
 ghost use Rattle.fasttrack_program.specs.Plan.{Runs};
 ghost use Rattle.fasttrack_program.specs.TopCall.{Serves};
 
-use crate::alone::OutputFault;
+use guest_streams::OutputFault;
 use crate::answer::Answer;
 use crate::report::write_report;
 use elf32_loader::Loaded;

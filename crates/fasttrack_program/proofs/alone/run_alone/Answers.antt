@@ -4,7 +4,7 @@ use Rattle.guest_model.specs.ByteMap.{bytes_from}
 use Rattle.guest_model.specs.Flat.{flat_bytes}
 use Rattle.guest_model.specs.MachineState.{flat}
 use Rattle.guest_model.specs.Rv32.{rv32}
-use Rattle.fasttrack_program.proofs.OnStreams.{SoFar-first, SoFar-quiet, SoFar-wrote, SoFar-ends, SoFar-spent, SoFar-refuses}
+use Rattle.guest_streams.proofs.OnStreams.{SoFar-first, SoFar-quiet, SoFar-wrote, SoFar-ends, SoFar-spent, SoFar-refuses}
 use Rattle.fasttrack_program.proofs.alone.run_alone.Goals as goal
 use Rattle.fasttrack_program.proofs.alone.run_alone.Goals.{in-Next, in-Wrote+in_ok-pass_on-in-Wrote}
 

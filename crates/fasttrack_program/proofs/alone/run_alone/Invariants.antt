@@ -2,7 +2,7 @@ use Rattle.std.proofs.Common.{◌≤◌, length}
 use Rattle.guest_model.specs.Flat.{flat_bytes}
 use Rattle.guest_model.specs.MachineState.{flat}
 use Rattle.guest_model.specs.Rv32.{rv32}
-use Rattle.fasttrack_program.proofs.OnStreams.{SoFar}
+use Rattle.guest_streams.proofs.OnStreams.{SoFar}
 use Rattle.fasttrack_program.proofs.alone.run_alone.Given as goal
 
 abbrev pub invariant-loop-done : goal.invariant-loop-done

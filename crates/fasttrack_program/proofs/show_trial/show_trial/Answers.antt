@@ -1,6 +1,6 @@
 use Rattle.std.proofs.Common.{ap, ◌∙◌}
 use Rattle.elf32_loader.specs.LoadedImage.{image_of_loaded}
-use Rattle.fasttrack_program.specs.GuestStreams.{Sinks}
+use Rattle.guest_streams.specs.GuestStreams.{Sinks}
 use Rattle.fasttrack_program.specs.Reports.{report, program_report}
 use Rattle.fasttrack_program.proofs.OnReports.{trial_report, text_shown, text_stops, text_within}
 use Rattle.fasttrack_program.proofs.show_trial.show_trial.Goals as goal

@@ -1,4 +1,4 @@
-use Rattle.fasttrack_program.specs.GuestStreams.{Sinks}
+use Rattle.guest_streams.specs.GuestStreams.{Sinks}
 use Rattle.fasttrack_program.proofs.OnPlans.{answered}
 use Rattle.fasttrack_program.proofs.top.plain_main.Goals as goal
 

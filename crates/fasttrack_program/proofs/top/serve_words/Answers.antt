@@ -1,6 +1,6 @@
 use Rattle.std.proofs.Common.{None, Err, Option, sym, ap, ◌∙◌, subst}
 use Rattle.program_words.specs.CommandLine.{Request}
-use Rattle.fasttrack_program.specs.GuestStreams.{Sinks}
+use Rattle.guest_streams.specs.GuestStreams.{Sinks}
 use Rattle.fasttrack_program.specs.TopCall.{IsServed, told_of}
 use Rattle.fasttrack_program.specs.declared.answer.Answer.TheVariants.{Usage}
 use Rattle.fasttrack_program.proofs.OnPlans.{served-usage, served-no_memory}

@@ -6,8 +6,8 @@ use Rattle.speculation.specs.Record.{Ran, output_of}
 use Rattle.host_io.specs.Faults.{Rose}
 use Rattle.guest_model.specs.declared.end.End.{End}
 use Rattle.guest_model.specs.declared.end.End.TheVariants.{Spent}
-use Rattle.fasttrack_program.specs.declared.alone.OutputFault.{OutputFault}
-use Rattle.fasttrack_program.specs.declared.alone.OutputFault.TheVariants.{Write, NoMemory}
+use Rattle.guest_streams.specs.declared.fault.OutputFault.{OutputFault}
+use Rattle.guest_streams.specs.declared.fault.OutputFault.TheVariants.{Write, NoMemory}
 
 -- the end of a run; none is that the budget was spent
 abbrev pub end_of : Option End → End

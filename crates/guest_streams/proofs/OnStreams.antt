@@ -12,9 +12,9 @@ use Rattle.host_io.specs.Faults.{Rose, CountsFaults}
 use Rattle.host_io.specs.Writes.{WritesWhole}
 use Rattle.guest_model.specs.declared.end.End.{End}
 use Rattle.guest_model.specs.declared.end.End.TheVariants.{Spent}
-use Rattle.fasttrack_program.specs.GuestStreams.{end_of, Sinks, Gets, IsNext, FailsAt, StopsShort, IsCalm, GetsPart, GetsAll, WritesPiece, PassesOn, Leaves}
-use Rattle.fasttrack_program.specs.declared.alone.OutputFault.{OutputFault}
-use Rattle.fasttrack_program.specs.declared.alone.OutputFault.TheVariants.{Write, NoMemory}
+use Rattle.guest_streams.specs.GuestStreams.{end_of, Sinks, Gets, IsNext, FailsAt, StopsShort, IsCalm, GetsPart, GetsAll, WritesPiece, PassesOn, Leaves}
+use Rattle.guest_streams.specs.declared.fault.OutputFault.{OutputFault}
+use Rattle.guest_streams.specs.declared.fault.OutputFault.TheVariants.{Write, NoMemory}
 
 -- ---- what sinks get, one part after another
 

@@ -1,6 +1,6 @@
-use Rattle.fasttrack_program.specs.GuestStreams.{Sinks}
-use Rattle.fasttrack_program.proofs.OnStreams.{WritesPiece-on_out, WritesPiece-on_notes}
-use Rattle.fasttrack_program.proofs.alone.write_piece.Goals as goal
+use Rattle.guest_streams.specs.GuestStreams.{Sinks}
+use Rattle.guest_streams.proofs.OnStreams.{WritesPiece-on_out, WritesPiece-on_notes}
+use Rattle.guest_streams.proofs.piece.write_piece.Goals as goal
 
 pub returns-then-stream-eq1 : goal.returns-then-stream-eq1
 returns-then-stream-eq1 g c =

@@ -1,0 +1,8 @@
+//! Conductors: they bring a board from its first entry to its end, and write what it releases.
+#![tactic(auto)]
+
+mod conducted;
+mod serial;
+
+pub use conducted::Conducted;
+pub use serial::conduct_serial;
