@@ -1,9 +1,11 @@
 -- What a call of the program is to do, from its words, its image file and its input
-use Rattle.std.specs.Prelude.{ℕ, nat_lt, if◌then◌else◌, List, [], length, Option, Some, None, Result, Ok, Err}
+use Rattle.std.specs.Prelude.{ℕ, Bool, nat_lt, if◌then◌else◌, List, [], length, Option, Some, None, Result, Ok, Err}
 use Rattle.guest_model.specs.Image.{Image, image}
 use Rattle.guest_model.specs.ImageFault.{Fault}
 use Rattle.program_words.specs.CommandLine.{Request}
 use Rattle.program_words.specs.declared.request.Task.{Task}
+use Rattle.program_words.specs.declared.request.Task.TheVariants.{Alone, Run, Trial, Bench}
+use Rattle.rv32_asm.specs.Generated.{generated}
 
 -- why a call is refused before the guest runs
 pub data Refusal : Type 0 where
@@ -12,10 +14,21 @@ pub data Refusal : Type 0 where
   BadFile : Fault → Refusal
   LongInput : Refusal
 
--- the call is refused, or the task is done on the guest of this image with this input and budget
+-- how a task is done: how many regions may be open at once, how many instructions the guest may run, and which texts stand
+-- behind its output
+pub record Options : Type 0 where
+  pub tracks : ℕ
+  pub budget : ℕ
+  pub report : Bool
+  pub journal : Bool
+
+-- the call is refused, or the task is done on the guest of this image with this input and these options
 pub data Plan : Type 0 where
   Refused : Refusal → Plan
-  Runs : Task → Image → List ℕ → ℕ → Plan
+  Runs : Task → Image → List ℕ → Options → Plan
+
+abbrev pub options_of : Request → Options
+options_of r = record { tracks = r.tracks; budget = r.budget; report = r.report; journal = r.journal }
 
 -- the most bytes of an image file and of an input
 abbrev pub image_limit : ℕ
@@ -35,14 +48,33 @@ image_in file = if nat_lt image_limit (length file) then Err LongImage else refu
 -- the input that the guest gets: none where it is left unread
 abbrev pub with_input : Image → Request → List ℕ → Plan
 with_input i r input =
-    if r.no_input then Runs r.task i [] r.budget else (
-    if nat_lt input_limit (length input) then Refused LongInput else Runs r.task i input r.budget)
+    if r.no_input then Runs r.task i [] (options_of r) else (
+    if nat_lt input_limit (length input) then Refused LongInput else Runs r.task i input (options_of r))
 
 abbrev pub with_image : Request → List ℕ → Result Image Refusal → Plan
 with_image r input (Err f) = Refused f
 with_image r input (Ok i) = with_input i r input
 
+-- the image of the program for benches of this number, and the regions that it has
+abbrev pub bench_regions : ℕ
+bench_regions = 64
+
+abbrev pub bench_image : ℕ → Result Image Refusal
+bench_image number = refused_file (image (generated number bench_regions))
+
+-- a bench has no input
+abbrev pub with_bench : Request → Result Image Refusal → Plan
+with_bench r (Err f) = Refused f
+with_bench r (Ok i) = Runs r.task i [] (options_of r)
+
+-- by the task: a bench reads neither file nor input
+abbrev pub plan_of : Task → Request → List ℕ → List ℕ → Plan
+plan_of (Bench number) r file input = with_bench r (bench_image number)
+plan_of Alone r file input = with_image r input (image_in file)
+plan_of Run r file input = with_image r input (image_in file)
+plan_of Trial r file input = with_image r input (image_in file)
+
 -- words, image length, image, input length: the first that refuses decides
 abbrev pub plan : Option Request → List ℕ → List ℕ → Plan
 plan None file input = Refused BadWords
-plan (Some r) file input = with_image r input (image_in file)
+plan (Some r) file input = plan_of r.task r file input

@@ -1,5 +1,7 @@
--- The report of a program: the rows of its ledger, their totals, and its end
-use Rattle.std.specs.Prelude.{ℕ, List, [], ◌∷◌, ◌++◌, map}
+-- The report of a program: the rows of its ledger, their totals, and its end; its journal; and the summary of a bench
+use Rattle.std.specs.Prelude.{ℕ, List, [], ◌∷◌, ◌++◌, length, map}
+use Rattle.speculation.specs.declared.history.Entry.{Entry}
+use Rattle.speculation.specs.Record.{output_of}
 use Rattle.speculation.specs.Ledger.{Row as LedgerRow, ledger}
 use Rattle.speculation.specs.Verdicts.{Verdict as CoreVerdict, Kept as CoreKept, Differs as CoreDiffers, Stopped as CoreStopped, Late as CoreLate}
 use Rattle.guest_model.specs.Image.{Image, program_alone, start_of}
@@ -10,7 +12,8 @@ use Rattle.region_ledger.specs.Ledger.{totals_of}
 use Rattle.region_ledger.specs.declared.row.Row.{Row}
 use Rattle.region_ledger.specs.declared.verdict.Verdict.{Verdict}
 use Rattle.region_ledger.specs.declared.verdict.Verdict.TheVariants.{Kept, Differs, Stopped, Late}
-use Rattle.report_text.specs.Reports.{row_line, totals_line, end_line}
+use Rattle.board_events.specs.Texts.{text_of}
+use Rattle.report_text.specs.Reports.{row_line, totals_line, end_line, bench_lines}
 use Rattle.guest_streams.specs.GuestStreams.{end_of}
 
 -- ---- the text
@@ -35,7 +38,24 @@ told_verdict CoreLate = Late
 abbrev pub told_row : LedgerRow Difference → Row
 told_row r = record { number = r.number; at = r.at; pc = r.pc; original = r.original; fast = r.judged.fast; verdict = told_verdict r.judged.verdict }
 
+-- the ledger of the program with this input, within this budget, as it is told
+abbrev pub told_ledger : Image → List ℕ → ℕ → List Row
+told_ledger i input budget = map told_row (ledger (rv32 input) (start_of i) budget)
+
 -- the ledger, the totals and the end of the program alone with this input, within this budget
 unfoldable pub program_report : Image → List ℕ → ℕ → List ℕ
 program_report i input budget =
-    report (map told_row (ledger (rv32 input) (start_of i) budget)) (program_alone i input budget).count (end_of (program_alone i input budget).end)
+    report (told_ledger i input budget) (program_alone i input budget).count (end_of (program_alone i input budget).end)
+
+-- the summary of a bench: the totals, the number of bytes that the program alone writes, and its end
+unfoldable pub bench_report : ℕ → Image → List ℕ → ℕ → List ℕ
+bench_report number i input budget =
+    bench_lines number (totals_of (told_ledger i input budget) (program_alone i input budget).count)
+        (length (output_of (program_alone i input budget))) (end_of (program_alone i input budget).end)
+
+-- ---- the journal
+
+-- a line for each entry; 10 is the line feed
+abbrev pub journal_text : List Entry → List ℕ
+journal_text [] = []
+journal_text (x ∷ xs) = text_of x ++ (10 ∷ journal_text xs)
