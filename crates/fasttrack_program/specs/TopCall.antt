@@ -42,12 +42,12 @@ task_output Run i input o entries = output_of (program_alone i input o.budget) +
 task_output Trial i input o entries = marked 1 (program_report i input o.budget)
 task_output (Bench number) i input o entries = marked 1 (bench_report number i input o.budget)
 
--- the entries are the serial history of the guest, where the task has one
+-- the entries are the serial history of the guest, where the task has one; at least one region may be open
 abbrev pub HasHistory : Task → Image → List ℕ → Options → List Entry → Type 0
 HasHistory Alone i input o entries = entries ≡ []
-HasHistory Run i input o entries = IsSerial (rv32 input) (settings_of o) (start_of i) entries
+HasHistory Run i input o entries = 1 ≤ o.tracks → IsSerial (rv32 input) (settings_of o) (start_of i) entries
 HasHistory Trial i input o entries = entries ≡ []
-HasHistory (Bench number) i input o entries = IsSerial (rv32 input) (settings_of o) (start_of i) entries
+HasHistory (Bench number) i input o entries = 1 ≤ o.tracks → IsSerial (rv32 input) (settings_of o) (start_of i) entries
 
 -- these tasks end as the guest does
 abbrev pub EndsAsGuest : Task → Type 0
