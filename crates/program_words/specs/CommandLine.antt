@@ -172,10 +172,15 @@ request_of words = unless_faulty (fault_of command words) (request_in (matches_o
 abbrev pub HasText : Found → Text → Type 0
 HasText f id = (text : Text) × (first_value f id ≡ Some text)
 
--- an option has a value, given or by default, which is a number in digits between two ends
-abbrev pub HasNumber : ℕ → ℕ → Found → Text → Type 0
-HasNumber low high f id = (text : Text) × (first_value f id ≡ Some text) × (one_text f id ≡ Some text)
-    × IsNumeral 10 (without_leading_plus text) × (low ≤ number_of text) × (number_of text ≤ high)
+-- an option has a value, given or by default, which is a number in digits that 64 bits hold
+abbrev pub HasNumber : Found → Text → Type 0
+HasNumber f id = (text : Text) × (first_value f id ≡ Some text) × (one_text f id ≡ Some text)
+    × IsNumeral 10 (without_leading_plus text) × (number_of text < 2 ^ 64)
+
+-- the number of each option is in its range
+abbrev pub AreInRange : List Row → Type 0
+AreInRange rows = (1 ≤ number_at (codes "tracks") rows) × (number_at (codes "tracks") rows ≤ 32) × (number_at (codes "workers") rows ≤ 0)
+    × (1 ≤ number_at (codes "budget") rows) × (number_at (codes "budget") rows ≤ 1099511627776)
 
 -- a value of a flag is one of the two words for it
 abbrev pub HasFlag : Found → Text → Type 0

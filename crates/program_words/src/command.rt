@@ -29,7 +29,7 @@ fn image_arg<'a>(alloc: Global) -> Arg<'a>
 }
 
 fn option_arg<'a>(alloc: Global, name: &'a str, parser: ValueParser<'a>, default: &'a str) -> Arg<'a>
-    ensures rule { rule_of result ≡ option_rule name.now parser default.now }
+    ensures rule { rule_of result ≡ option_rule name.now parser.entry default.now }
     ensures local { result.global ≡ false }
 {
     Arg::new(alloc, name)

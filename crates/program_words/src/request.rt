@@ -1,8 +1,8 @@
 //! What the words ask for.
 
-ghost use Rattle.std.specs.Prelude.{◌≡◌, ◌≤◌, ◌<◌, ◌^◌, Some, None, Err, IfOk, codes, map, string_bytes};
+ghost use Rattle.std.specs.Prelude.{◌≡◌, ◌≤◌, ◌^◌, Some, None, Err, IfOk, codes, map, string_bytes};
 ghost use Rattle.clap.specs.Words.{found_of, rows_of};
-ghost use Rattle.program_words.specs.CommandLine.{HasFlag, HasNumber, HasText, bench_number, flag_at, number_at, request_in, request_of, task_at, task_of, value_of};
+ghost use Rattle.program_words.specs.CommandLine.{AreInRange, HasFlag, HasNumber, HasText, bench_number, flag_at, number_at, request_in, request_of, task_at, task_of, value_of};
 
 use crate::command::command;
 use clap::ArgMatches;
@@ -97,8 +97,9 @@ fn parse_words<'a>(alloc: Global, words: &'a [String]) -> Result<ArgMatches<'a>,
     ensures usage { result ≡ Err WordsFault.Usage → request_of (map string_bytes words.now) ≡ None }
     ensures rows { IfOk result (λ m. request_of (map string_bytes words.now) ≡ request_in (rows_of (found_of m))) }
     ensures texts { IfOk result (λ m. HasText (found_of m) (codes "COMMAND") × HasText (found_of m) (codes "IMAGE")) }
-    ensures numbers { IfOk result (λ m. HasNumber 1 32 (found_of m) (codes "tracks") × HasNumber 0 0 (found_of m) (codes "workers")
-        × HasNumber 1 (2 ^ 40) (found_of m) (codes "budget")) }
+    ensures numbers { IfOk result (λ m. HasNumber (found_of m) (codes "tracks") × HasNumber (found_of m) (codes "workers")
+        × HasNumber (found_of m) (codes "budget")) }
+    ensures ranges { IfOk result (λ m. AreInRange (rows_of (found_of m))) }
     ensures flags { IfOk result (λ m. HasFlag (found_of m) (codes "no-input") × HasFlag (found_of m) (codes "report")
         × HasFlag (found_of m) (codes "journal")) }
 {
@@ -150,7 +151,7 @@ fn text_in<'a>(matches: &ArgMatches<'a>, id: &str) -> &'a str
 }
 
 fn number_in(matches: &ArgMatches<'_>, id: &str) -> u64
-    requires { HasNumber 0 (2 ^ 64 - 1) (found_of matches.now) id.now }
+    requires { HasNumber (found_of matches.now) id.now }
     ensures { result ≡ number_at id.now (rows_of (found_of matches.now)) }
 {
     match matches.get_one::<u64>(id) {
