@@ -1,6 +1,6 @@
 -- Which texts are the number of a bench
-use Rattle.std.proofs.Common.{◌≡◌, ◌∙◌, ◌<◌, ◌≤◌, ◌≢◌, ◌^◌, ap, subst, refl, sym, ℕ, Bool, true, false, true≢false, List, [], ◌∷◌, Option, Some, None, Result, Ok, Err, length, slice_index, ltb-true, leb-true, lt-ltb, le-leb, cond}
-use Rattle.std.specs.Prelude.{◌&&◌, nat_le, nat_lt}
+use Rattle.std.proofs.Common.{◌≡◌, ◌∙◌, ◌<◌, ◌≤◌, ◌≢◌, ◌^◌, ap, subst, refl, sym, ℕ, Bool, true, false, List, [], ◌∷◌, Some, None, Result, Ok, Err, length, slice_index, ltb-true, lt-ltb, le-leb, cond}
+use Rattle.std.specs.Prelude.{◌&&◌, nat_lt}
 use Rattle.std.specs.List.{list_all}
 use Rattle.std.specs.Result.{result_ok}
 use Rattle.std.proofs.lemmas.Str.Parse.{without_leading_plus_none}

@@ -1,4 +1,4 @@
-use Rattle.std.proofs.Common.{◌≡◌, ◌∙◌, ◌≤◌, length, rules}
+use Rattle.std.proofs.Common.{◌∙◌, ◌≤◌, length, rules}
 use Rattle.program_words.proofs.BenchNumber.{reads}
 use Rattle.program_words.proofs.request.bench_number.Goals as goal
 
