@@ -1,12 +1,15 @@
 -- The rounds of a conductor: each step of them goes on with the serial history.
-use Rattle.std.proofs.Common.{◌≡◌, ◌≢◌, ℕ, zero, suc, ◌+◌, ◌-◌, ◌<◌, ◌≤◌, Bool, true, false, not, if◌then◌else◌, List, [], ◌∷◌, ◌++◌, length, Option, Some, None, is_some, nat_lt, ◌⊎◌, inl, inr, refl, sym, ap, ap₂, ◌∙◌, subst, append_assoc, append-nil, add-zero, add-suc, lt-ltb, arith}
+use Rattle.std.proofs.Common.{◌≡◌, ◌≢◌, ℕ, zero, suc, ◌+◌, ◌-◌, ◌<◌, ◌≤◌, Bool, true, false, not, ◌&&◌, ◌||◌, if◌then◌else◌, List, [], ◌∷◌, ◌++◌, length, Option, Some, None, is_some, Result, Ok, Err, nat_lt, ◌⊎◌, inl, inr, refl, sym, ap, ap₂, ◌∙◌, subst, append_assoc, append-nil, add-zero, add-suc, lt-ltb, arith}
+use Rattle.std.specs.Prelude.{MatchResult}
 use Rattle.speculation.specs.declared.tracks.Name.{Name}
+use Rattle.speculation.specs.declared.history.Settings.{Settings}
 use Rattle.speculation.specs.declared.history.Entry.{Entry}
 use Rattle.speculation.specs.declared.history.Entry.TheVariants as E
+use Rattle.speculation.specs.Machine.{Machine}
 use Rattle.speculation.specs.Run.{Mark}
-use Rattle.speculation.specs.Core.{Core, Region, opening, over, lead_name, normal_name, front_home, verified}
-use Rattle.speculation.specs.Due.{Due, Finishing, Crossing, Judging, Forking, choose, due}
-use Rattle.speculation.specs.Events.{lendable, released_by, released_core, event, core_run}
+use Rattle.speculation.specs.Core.{Core, Region, opening, over, lead_name, normal_name, find_track, front, front_home, verified}
+use Rattle.speculation.specs.Due.{Due, Finishing, Crossing, Judging, Forking, finish_test, cross_test, verdict_due, fork_test, choose, due}
+use Rattle.speculation.specs.Events.{is_ready, lendable, released_by, released_core, event, core_run}
 use Rattle.speculation.specs.Law.{Exact}
 use Rattle.speculation.specs.Serial.{row_entry, entry_of, slice_of, serial_by, serial_next, first_lendable}
 use Rattle.speculation.specs.Verdicts.{is_kept}
@@ -29,7 +32,7 @@ use Rattle.track_board.specs.Settles.{Acted, Settles, due_of, verified_of, relea
 use Rattle.track_board.specs.Others.{extended}
 use Rattle.track_board.proofs.Foundation.{core-legal, legal-known}
 use Rattle.track_board.proofs.Settling.{weight_of}
-use Rattle.worker_gate.specs.Rounds.{TakesVerified, CanLend, slice_entries, RunsSlice, GivesUp, IsUnderway, IsNext, GoesBy, IsAtEnd}
+use Rattle.worker_gate.specs.Rounds.{TakesVerified, SettlesSome, CanLend, slice_entries, RunsSlice, GivesUp, IsUnderway, IsNext, GoesBy, IsAtEnd}
 use Rattle.worker_gate.proofs.Releases.{IsQuiet, AreQuiet, quiet-append, quiet-run, release-core, released_core-released}
 
 -- ---- what is known of every board
@@ -90,7 +93,7 @@ extended-none v = ap (λ (xs : List Entry). record v { entries = xs }) (sym (app
 pub extends-none : (v w : Posted) → w ≡ v → ExtendsQuietly v w
 extends-none v w h = record { more = []; quiet = tt; now = h ∙ extended-none v }
 
-extended-twice : (v u w : Posted) (xs ys : List Entry) → u ≡ extended v xs → w ≡ extended u ys → w ≡ extended v (xs ++ ys)
+pub extended-twice : (v u w : Posted) (xs ys : List Entry) → u ≡ extended v xs → w ≡ extended u ys → w ≡ extended v (xs ++ ys)
 extended-twice v u w xs ys a b = b ∙ ap (λ (x : Posted). extended x ys) a ∙ ap (λ (zs : List Entry). record v { entries = zs }) (append_assoc v.entries xs ys)
 
 pub extends-more : (v u w : Posted) → Extends v u → Extends u w → Extends v w
@@ -229,24 +232,23 @@ by-more m (suc n) v u w a b = subst (λ k. GoesBy k v w) (sym (add-suc m n)) (b.
 
 -- ---- where nothing comes next
 
-due-over : (v : Posted) → over (core_of v) ≡ true → due_of v ≡ None
-unfolding due
-due-over v h = ap (λ t. choose t _ _ _ _) h
+module _ {S E D : Type 0} (m : Machine S E D) (b : Settings) (c : Core S E D) (is_over : over c ≡ true) where
+  due-over : due m b c ≡ None
+  unfolding due
+  due-over = ap (λ t. choose t (finish_test m b c.base (front_home c) (front c)) (cross_test m c) (verdict_due m c c.regions) (fork_test m b c)) is_over
 
-unlendable-over : (v : Posted) (n : Name) → over (core_of v) ≡ true → lendable (machine_of v) v.settings (core_of v) n ≡ false
-unlendable-over v n h = ap (λ t. not t && _) h
+  unlendable-over : (n : Name) → lendable m b c n ≡ false
+  unlendable-over n = ap (λ t. not t && is_ready m b c n (find_track c n)) is_over
 
-first_lendable-over : (v : Posted) (rs : List (Region MachineState)) → over (core_of v) ≡ true → first_lendable (machine_of v) v.settings (core_of v) rs ≡ None
-first_lendable-over v [] h = ap (λ t. if t then Some (lead_name (core_of v)) else None) (unlendable-over v (lead_name (core_of v)) h)
-first_lendable-over v (r ∷ rs) h =
-    ap (λ t. if t then Some (normal_name (core_of v) r) else first_lendable (machine_of v) v.settings (core_of v) rs) (unlendable-over v (normal_name (core_of v) r) h)
-    ∙ first_lendable-over v rs h
+  first_lendable-over : (rs : List (Region S)) → first_lendable m b c rs ≡ None
+  first_lendable-over [] = ap (λ t. if t then Some (lead_name c) else None) (unlendable-over (lead_name c))
+  first_lendable-over (r ∷ rs) = ap (λ t. if t then Some (normal_name c r) else first_lendable m b c rs) (unlendable-over (normal_name c r)) ∙ first_lendable-over rs
 
 -- a board that is over with nothing to release is at its end
 pub at-end : (v : Posted) → over (core_of v) ≡ true → verified_of v ≡ [] → IsAtEnd v
 at-end v is_over none = record {
   over = is_over;
-  idle = next-is v None false None (due-over v is_over) (none-shown v none) (first_lendable-over v (core_of v).regions is_over);
+  idle = next-is v None false None (due-over (machine_of v) v.settings (core_of v) is_over) (none-shown v none) (first_lendable-over (machine_of v) v.settings (core_of v) is_over (core_of v).regions);
 }
 
 can-lend_by : (v : Posted) (o : Option Name) → oldest_lendable v ≡ o → IsKnown v → IsUnderway v → due_of v ≡ None → verified_of v ≡ [] → over (core_of v) ≡ false → CanLend v
@@ -329,6 +331,12 @@ pub taken-rounds : (v w : Posted) (bytes : List Mark) → TakesVerified v w byte
 taken-rounds v w bytes h known underway =
     subst (λ (x : Posted). TakenRounds v x bytes) (sym h.now)
     (taken-by v h.settled h.events bytes h.settles h.undue h.verified (subst IsKnown h.now known) underway)
+
+-- by what a release answered after the due events
+pub taken-is : {F : Type 0} (v u w : Posted) (n : ℕ) (r : Result (List Mark) F) → Settles n v u → due_of u ≡ None → MatchResult r (λ bytes. (bytes ≡ verified_of u) × (w ≡ released_with u bytes)) (λ _. w ≡ u)
+    → MatchResult r (TakesVerified v w) (λ _. SettlesSome v w)
+taken-is v u w n (Ok bytes) settles undue h = record { settled = u; events = n; settles = settles; undue = undue; verified = h.0; now = h.1 }
+taken-is v u w n (Err fault) settles undue h = (n, subst (λ (x : Posted). Settles n v x) (sym h) settles)
 
 -- ---- slices
 

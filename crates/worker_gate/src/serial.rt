@@ -160,10 +160,14 @@ fn run_slice(board: &mut Board) -> Result<(), NoMemory>
     let Some(mut loan) = board.lend(SEAT)? else {
         unreachable!()
     };
-    if loan.run().is_err() {
-        board.give_up(loan);
-        return Err(NoMemory);
+    match loan.run() {
+        Ok(_) => {
+            board.back(loan);
+            Ok(())
+        }
+        Err(NoMemory) => {
+            board.give_up(loan);
+            Err(NoMemory)
+        }
     }
-    board.back(loan);
-    Ok(())
 }
