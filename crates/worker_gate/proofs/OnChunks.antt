@@ -14,10 +14,6 @@ chunk_marks-append [] ys = refl
 chunk_marks-append (x ∷ xs) ys = ap (λ ms. marked x.stream x.bytes ++ ms) (chunk_marks-append xs ys) ∙ sym (append_assoc (marked x.stream x.bytes) (chunk_marks xs) (chunk_marks ys))
 
 module _ (cs : List Chunk) (i : ℕ) (x : Chunk) (lt : i < length cs) (is : x ≡ get_or cs i x) where
-  -- the stream of the chunk at an index
-  pub chunk-stream : AreChunks cs → IsStream x.stream
-  chunk-stream h = subst (λ (c : Chunk). IsStream c.stream) (sym is) (All-get_or (λ (c : Chunk). IsStream c.stream) cs i x lt h.streams)
-
   chunk_marks-next : chunk_marks (take (i + 1) cs) ≡ chunk_marks (take i cs) ++ marked x.stream x.bytes
   chunk_marks-next =
       ap (λ n. chunk_marks (take n cs)) (add-one i) ∙ ap chunk_marks (take-suc cs i x lt) ∙ chunk_marks-append (take i cs) (get_or cs i x ∷ [])
