@@ -7,6 +7,7 @@
 mod comparison;
 pub mod laws;
 mod progress;
+mod quiet;
 mod start;
 mod stop;
 mod track;
