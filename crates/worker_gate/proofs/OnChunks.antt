@@ -1,10 +1,8 @@
 -- Chunks of verified bytes on their way to the sinks.
-use Rattle.std.proofs.Common.{◌≡◌, ◌≢◌, ◌==◌, true, false, eqb-true, arith, ℕ, suc, ◌+◌, ◌<◌, List, [], ◌∷◌, ◌++◌, length, get_or, take, drop, refl, sym, ap, ◌∙◌, subst, append_assoc, append-nil, take-append-drop, add-one}
+use Rattle.std.proofs.Common.{◌≡◌, ◌≢◌, ◌==◌, true, false, eqb-true, arith, ℕ, ◌+◌, ◌<◌, List, [], ◌∷◌, ◌++◌, length, get_or, take, drop, refl, sym, ap, ◌∙◌, subst, append_assoc, append-nil, take-append-drop, add-one}
 use Rattle.std.proofs.Math.Seq.{take-suc}
-use Rattle.std.proofs.lemmas.List.Elements.{All-get_or}
 use Rattle.speculation.specs.Run.{Mark, marked}
-use Rattle.held_output.specs.Held.{IsStream}
-use Rattle.held_output.specs.Chunks.{AreChunks, chunk_marks}
+use Rattle.held_output.specs.Chunks.{chunk_marks}
 use Rattle.held_output.specs.declared.chunks.Chunk.{Chunk}
 use Rattle.guest_streams.specs.GuestStreams.{Sinks, GetsAll, StopsShort}
 use Rattle.guest_streams.proofs.OnStreams.{GetsAll-more, StopsShort-amid}

@@ -1,6 +1,5 @@
 -- What the sinks got, and what came of a board, when its rounds are over.
-use Rattle.std.proofs.Common.{◌≡◌, ◌≢◌, ℕ, ◌+◌, ◌<◌, ◌⊎◌, inl, inr, true, if◌then◌else◌, Bool, false, List, [], ◌∷◌, ◌++◌, length, Option, Some, None, option_map, refl, sym, ap, ◌∙◌, subst, append_assoc, append-nil, arith}
-use Rattle.speculation.specs.declared.history.Entry.{Entry}
+use Rattle.std.proofs.Common.{◌≡◌, ◌≢◌, ◌+◌, ◌<◌, inl, inr, true, if◌then◌else◌, Bool, false, List, [], ◌++◌, length, Option, Some, None, refl, sym, ap, ◌∙◌, subst, append_assoc, append-nil, arith}
 use Rattle.speculation.specs.declared.history.Entry.TheVariants as E
 use Rattle.speculation.specs.Run.{Mark}
 use Rattle.speculation.specs.Record.{output_of}
@@ -8,7 +7,6 @@ use Rattle.speculation.specs.Core.{Finished as CoreFinished, opening, over}
 use Rattle.speculation.specs.Events.{core_run}
 use Rattle.speculation.specs.Law.{IsComplete}
 use Rattle.speculation.specs.Serial.{serial}
-use Rattle.guest_model.specs.MachineState.{MachineState}
 use Rattle.guest_model.specs.declared.end.End.{End}
 use Rattle.guest_model.specs.declared.end.End.TheVariants.{Exit, Trap, Spent}
 use Rattle.speculation_law.proofs.Histories.{law-partial, law-complete}
@@ -23,10 +21,9 @@ use Rattle.guest_streams.proofs.OnStreams.{GetsAll-nothing, GetsAll-more, StopsS
 use Rattle.track_board.specs.declared.outcome.Outcome.{Outcome}
 use Rattle.track_board.specs.Value.{Posted, GuestCore, IsKnown, machine_of, start_state, core_of, posted}
 use Rattle.track_board.specs.Settles.{verified_of, finish_of, IsOutcome}
-use Rattle.track_board.specs.Others.{extended}
 use Rattle.track_board.proofs.Foundation.{core-legal}
 use Rattle.track_board.proofs.Settling.{weight_of}
-use Rattle.worker_gate.specs.Conducting.{alone_of, IsSameRun, released_total, IsWhole, Conducts}
+use Rattle.worker_gate.specs.Conducting.{alone_of, IsSameRun, IsWhole, Conducts}
 use Rattle.worker_gate.specs.Rounds.{TakesVerified, SettlesSome, CanLend, RunsSlice, SliceFails, IsUnderway, GoesBy, GoesOn, IsAtEnd, BreaksOff, Breaks, IsRound, answer_to}
 use Rattle.worker_gate.proofs.Releases.{total-run}
 use Rattle.worker_gate.proofs.OnRounds.{exact-of, sound-of, Extends, extends-more, ExtendsQuietly, quietly, quiet-released, extends-none, settles-quiet, slice-next, solo-of, by-carries, by-extends, by-known, by-more, at-end, can-lend, TakenRounds, taken-rounds, slice-quiet, given_up-quiet}

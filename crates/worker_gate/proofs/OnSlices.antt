@@ -1,15 +1,11 @@
 -- A track that is lent, run by one slice and taken back.
-use Rattle.std.proofs.Common.{◌≡◌, ℕ, true, false, List, [], ◌∷◌, ◌++◌, Option, Some, None, refl, sym, ap, ap₂, ◌∙◌, subst}
+use Rattle.std.proofs.Common.{◌≡◌, false, [], ◌∷◌, Some, None, sym, ap, ap₂, ◌∙◌, subst}
 use Rattle.std.proofs.lemmas.Option.{same_Some}
 use Rattle.speculation.specs.declared.tracks.Name.{Name}
 use Rattle.speculation.specs.declared.tracks.OpenLoan.{OpenLoan}
-use Rattle.speculation.specs.declared.history.Entry.{Entry}
 use Rattle.speculation.specs.declared.history.Entry.TheVariants as E
 use Rattle.speculation.specs.Core.{over, find_loan, find_track}
 use Rattle.speculation.specs.Serial.{slice_of}
-use Rattle.guest_model.specs.MachineState.{MachineState}
-use Rattle.guest_model.specs.declared.difference.Difference.{Difference}
-use Rattle.guest_model.specs.declared.end.End.{End}
 use Rattle.speculation_law.proofs.FindLoan.{find_loan-new}
 use Rattle.speculation_law.proofs.Names.{home-lent}
 use Rattle.speculation_law.proofs.Naming.{find_loan-home}
@@ -21,9 +17,8 @@ use Rattle.track_board.specs.declared.loan.Back.{Back}
 use Rattle.track_board.specs.declared.loan.Back.TheVariants.{Taken}
 use Rattle.track_board.specs.Value.{Posted, GuestCore, IsKnown, machine_of, core_of, posted}
 use Rattle.track_board.specs.Loans.{oldest_lendable, IsLent, IsReturned, back_by, back_entry}
-use Rattle.track_board.specs.Others.{extended}
 use Rattle.track_board.proofs.Foundation.{posted-core}
-use Rattle.worker_gate.specs.Rounds.{slice_entries, RunsSlice, GivesUp}
+use Rattle.worker_gate.specs.Rounds.{RunsSlice}
 use Rattle.worker_gate.proofs.OnRounds.{sound-of, extends-known, extended-twice}
 
 module _ (v w : Posted) (loan : Loan) (known : IsKnown w) (lent : IsLent v w 0 loan) where

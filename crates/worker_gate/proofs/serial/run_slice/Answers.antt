@@ -1,4 +1,4 @@
-use Rattle.std.proofs.Common.{Option, Some, subst}
+use Rattle.std.proofs.Common.{Option, subst}
 use Rattle.track_board.specs.declared.loan.Loan.{Loan}
 use Rattle.track_board.specs.Loans.{LendIs}
 use Rattle.track_board.proofs.Seats.{lent-home}
