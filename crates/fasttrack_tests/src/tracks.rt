@@ -17,11 +17,13 @@ const SUMS: [u8; 24] = [
 ];
 
 /// The journal of the region whose fast version is kept.
-const KEPT: &str = "lend 0 0.0.f\nback 0.0.f 1\nfork 0.1.f\nlend 0 0.1.n\nback 0.1.n 36\nlend 0 0.1.f\n\
+const KEPT: &str =
+    "lend 0 0.0.f\nback 0.0.f 1\nfork 0.1.f\nlend 0 0.1.n\nback 0.1.n 36\nlend 0 0.1.f\n\
      back 0.1.f 5\ncross 0.1.f\nkeep 0\nlend 0 0.1.f\nback 0.1.f 3\nfinish\n";
 
 /// The journal of the same region with a wrong fast version.
-const DISCARDED: &str = "lend 0 0.0.f\nback 0.0.f 1\nfork 0.1.f\nlend 0 0.1.n\nback 0.1.n 36\nlend 0 0.1.f\n\
+const DISCARDED: &str =
+    "lend 0 0.0.f\nback 0.0.f 1\nfork 0.1.f\nlend 0 0.1.n\nback 0.1.n 36\nlend 0 0.1.f\n\
      back 0.1.f 5\ncross 0.1.f\ndiscard 0\nlend 0 1.0.f\nback 1.0.f 3\nfinish\n";
 
 /// The entries of the only history that was handed out, as lines.
@@ -99,8 +101,7 @@ fn two_streams(rt: HostRuntime) -> Result<(), Fail> {
     assert!(rt; whole.answer == Answer::Exited(0) && whole.out.as_slice() == b"\x13".as_slice());
     assert!(rt;
         whole.notes.as_slice()
-            == b"\x05regions 0 kept 0 differs 0 stopped 0 late 0 alone 11 path 11\nend exit 0\n"
-                .as_slice()
+            == b"\x05regions 0 kept 0 differs 0 stopped 0 late 0 alone 11 path 11\nend exit 0\n".as_slice()
     );
     let spent = call(
         rt.alloc(),
@@ -304,8 +305,7 @@ fn benches(rt: HostRuntime) -> Result<(), Fail> {
         assert!(rt; got.answer == Answer::Shown && status(&got.answer) == 0);
         assert!(rt;
             got.out.as_slice()
-                == b"bench 0\nregions 64 kept 32 differs 16 stopped 0 late 16 alone 1927078 path 964054\noutput 256\nend exit 0\n"
-                    .as_slice()
+                == b"bench 0\nregions 64 kept 32 differs 16 stopped 0 late 16 alone 1927078 path 964054\noutput 256\nend exit 0\n".as_slice()
         );
         assert!(rt; got.notes.is_empty() && got.told.as_slice().len() == 1);
     }

@@ -62,12 +62,7 @@ fn exits<'a>(code: u32, report: &'a str) -> Told<'a> {
 }
 
 /// The call of this command on the small image of these words, with this budget and the input `abc`.
-fn call_of(
-    alloc: Global,
-    words: &[u32],
-    command: &[&str],
-    budget: &str,
-) -> Result<Got, Fail> {
+fn call_of(alloc: Global, words: &[u32], command: &[&str], budget: &str) -> Result<Got, Fail> {
     let image = image_of(alloc, words)?;
     let mut line = Vec::from_slice(alloc, command)?;
     line.push("--budget")?;

@@ -44,13 +44,7 @@ pub fn run_registers(state: &mut TrackState, limit: u64) -> Quiet
 }
 
 #[inline(always)]
-fn run_on_page(
-    number: u32,
-    page: &[u8],
-    regs: &mut Regs,
-    memory: &PagedImage,
-    limit: u64,
-) -> Quiet
+fn run_on_page(number: u32, page: &[u8], regs: &mut Regs, memory: &PagedImage, limit: u64) -> Quiet
     requires { IsPage (content memory.now) number page.now }
     ensures ran { QuietRegisters (content memory.now) regs.old result.taken regs.new }
     ensures within { result.taken ≤ limit }
