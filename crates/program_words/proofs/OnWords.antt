@@ -18,11 +18,11 @@ use Rattle.program_words.specs.CommandLine.{HeldTexts, Request, command, command
 use Rattle.program_words.proofs.SameFaults.{faults_same}
 use Rattle.program_words.proofs.SameReading.{built_shape, matches_same, rules}
 
-none_among : (k : ErrorKind) (kinds : Kinds) (r : Request) → IsAmong k kinds → unless_faulty kinds r ≡ None
+none_among : (k : ErrorKind) (kinds : Kinds) (r : Option Request) → IsAmong k kinds → unless_faulty kinds r ≡ None
 none_among k [] r h = absurd h
 none_among k (x ∷ xs) r h = refl
 
--- ---- where there is no fault, IMAGE is given
+-- ---- where there is no fault, COMMAND and IMAGE are given
 
 after_all : (a b s d c : Kinds) → or_else a (or_else b (or_else s (or_else d c))) ≡ [] → c ≡ []
 after_all [] [] [] [] c e = e
@@ -37,13 +37,17 @@ none_wanted false true a e = cc
 none_wanted false false true e = cc
 none_wanted false false false e = refl
 
-second_given : (a b rest : Bool) → (not a || (not b || rest)) ≡ false → b ≡ true
-second_given true true rest e = refl
-second_given true false rest e = absurd (true≢false e)
-second_given false b rest e = absurd (true≢false e)
+both_given : (a b rest : Bool) → (not a || (not b || rest)) ≡ false → (a ≡ true) × (b ≡ true)
+both_given true true rest e = (refl, refl)
+both_given true false rest e = absurd (true≢false e)
+both_given false b rest e = absurd (true≢false e)
 
-image_given : (words : List Text) → fault_of command words ≡ [] → is_given (codes "IMAGE") (matches_of command words) ≡ true
-image_given words e =
+-- COMMAND and IMAGE are given
+abbrev pub ArePlaced : List Row → Type 0
+ArePlaced rows = (is_given (codes "COMMAND") rows ≡ true) × (is_given (codes "IMAGE") rows ≡ true)
+
+places_given : (words : List Text) → fault_of command words ≡ [] → ArePlaced (matches_of command words)
+places_given words e =
     let s = built_shape task_names in
     let w = walk (rules task_names) [] nothing_held words in
     let rows = finished (rules task_names) w.held in
@@ -52,7 +56,7 @@ image_given words e =
     (settle_fault (rules task_names) false w.held) (defaults_fault (settled (rules task_names) w.held).rows (rules task_names)) (check_fault s rows has) e in
     let none = none_wanted (not has && (false && not (list_any (λ r. explicit_source r.source) rows))) (not has && false)
     (list_any (λ a. a.required && not (is_given a.id rows)) (rules task_names)) last in
-    second_given (is_given (codes "COMMAND") rows) (is_given (codes "IMAGE") rows) false none
+    both_given (is_given (codes "COMMAND") rows) (is_given (codes "IMAGE") rows) false none
 
 module _ (names : HeldTexts) (same : texts names.now ≡ texts task_names.now) (a : App) (is : a ≡ command_with names) (words : List Text) where
   pub faults_are : fault_of a words ≡ fault_of command words
@@ -67,15 +71,14 @@ module _ (names : HeldTexts) (same : texts names.now ≡ texts task_names.now) (
   refuses e (inr among) not_memory =
       none_among (kind_of e) (fault_of command words) _ (subst (IsAmong (kind_of e)) faults_are among)
 
-  pub gives_image : (rows : List Row) → fault_of a words ≡ [] → rows ≡ matches_of a words → is_given (codes "IMAGE") rows ≡ true
-  gives_image rows none are =
-      ap (is_given (codes "IMAGE")) (are ∙ matches_are) ∙ image_given words (sym faults_are ∙ none)
+  pub gives_places : (rows : List Row) → fault_of a words ≡ [] → rows ≡ matches_of a words → ArePlaced rows
+  gives_places rows none are = subst ArePlaced (sym (are ∙ matches_are)) (places_given words (sym faults_are ∙ none))
 
-  -- no fault and the rows of the words: the words make the request that the rows give
-  pub grants : (rows : List Row) → fault_of a words ≡ [] → rows ≡ matches_of a words → request_of words ≡ Some (request_in rows)
+  -- no fault and the rows of the words: the request of the words is that of the rows
+  pub grants : (rows : List Row) → fault_of a words ≡ [] → rows ≡ matches_of a words → request_of words ≡ request_in rows
   grants rows none are =
       ap (λ k. unless_faulty k (request_in (matches_of command words))) (sym faults_are ∙ none)
-      ∙ ap (λ r. Some (request_in r)) (sym (are ∙ matches_are))
+      ∙ ap request_in (sym (are ∙ matches_are))
 
 pub simple_app : (names : HeldTexts) (a : App) → a ≡ command_with names → is_simple_and_free a ≡ true
 simple_app names a is = ap is_simple_and_free is

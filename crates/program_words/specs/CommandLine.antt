@@ -1,15 +1,18 @@
 -- The command line of the program, as a simple command of `clap`, and the request that words make of it
-use Rattle.std.specs.Prelude.{◌≡◌, ◌≤◌, ◌⊎◌, ℕ, Bool, true, List, [], ◌∷◌, Option, Some, None, codes, unwrap_or, if◌then◌else◌}
+use Rattle.std.specs.Prelude.{◌≡◌, ◌≤◌, ◌<◌, ◌^◌, ◌⊎◌, ◌&&◌, ℕ, Bool, true, nat_le, nat_lt, List, [], ◌∷◌, length, Option, Some, None, codes, option_map, unwrap_or, if◌then◌else◌}
+use Rattle.std.specs.List.{list_all}
 use Rattle.std.specs.Borrow.{Bor}
+use Rattle.std.specs.Char.{digit_value}
 use Rattle.std.specs.Str.{bytes_eq}
 use Rattle.std.specs.Str.Parse.{digits_value, IsNumeral, without_leading_plus}
 use Rattle.clap.specs.Words.{App, Kinds, Row, Rule, Text, fault_of, first_of, matches_of, new_app, new_rule, with_rule}
 use Rattle.clap.specs.Matches.{first_value, one_text}
 use Rattle.clap.specs.declared.parser.matches.Found.{Found}
 use Rattle.clap.specs.declared.builder.ArgAction.TheVariants.{SetTrue}
+use Rattle.clap.specs.declared.builder.ValueParser.{ValueParser}
 use Rattle.clap.specs.declared.builder.ValueParser.TheVariants.{Bool as BoolParser, Names, Unsigned}
 use Rattle.program_words.specs.declared.request.Task.{Task}
-use Rattle.program_words.specs.declared.request.Task.TheVariants.{Alone, Trial}
+use Rattle.program_words.specs.declared.request.Task.TheVariants.{Alone, Run, Trial, Bench}
 
 -- ---- the command
 
@@ -23,7 +26,10 @@ held text = record { now = text; ref_ptr = (0, 0) }
 
 -- the commands that there are
 abbrev pub task_names : HeldTexts
-task_names = record { now = held (codes "alone") ∷ (held (codes "trial") ∷ []); ref_ptr = (0, 0) }
+task_names = record {
+  now = held (codes "alone") ∷ (held (codes "run") ∷ (held (codes "trial") ∷ (held (codes "bench") ∷ [])));
+  ref_ptr = (0, 0);
+}
 
 -- COMMAND, required, with its possible values
 abbrev pub command_rule : HeldTexts → Rule
@@ -33,18 +39,30 @@ command_rule names = record (new_rule (codes "COMMAND")) { required = true; pars
 abbrev pub image_rule : Rule
 image_rule = record (new_rule (codes "IMAGE")) { required = true }
 
--- `--budget` with a number from 1 to 2^40, which is also its default
-abbrev pub budget_rule : Rule
-budget_rule = record (new_rule (codes "budget")) {
-  long = Some (codes "budget");
-  parser = Some (Unsigned 1 1099511627776);
-  defaults = codes "1099511627776" ∷ [];
+-- an option of this name with its parser and its default
+abbrev pub option_rule : Text → ValueParser → Text → Rule
+option_rule name parser default = record (new_rule name) {
+  long = Some name;
+  parser = Some parser;
+  defaults = default ∷ [];
 }
 
--- the flag `--no-input`
-abbrev pub no_input_rule : Rule
-no_input_rule = record (new_rule (codes "no-input")) {
-  long = Some (codes "no-input");
+-- `--tracks` with a number from 1 to 32, by default 4
+abbrev pub tracks_rule : Rule
+tracks_rule = option_rule (codes "tracks") (Unsigned 1 32) (codes "4")
+
+-- `--workers` with the number 0, since no workers stand yet
+abbrev pub workers_rule : Rule
+workers_rule = option_rule (codes "workers") (Unsigned 0 0) (codes "0")
+
+-- `--budget` with a number from 1 to 2^40, which is also its default
+abbrev pub budget_rule : Rule
+budget_rule = option_rule (codes "budget") (Unsigned 1 1099511627776) (codes "1099511627776")
+
+-- a flag of this name
+abbrev pub flag_rule : Text → Rule
+flag_rule name = record (new_rule name) {
+  long = Some name;
   action = Some SetTrue;
   parser = Some BoolParser;
 }
@@ -53,10 +71,21 @@ no_input_rule = record (new_rule (codes "no-input")) {
 abbrev pub nameless : App → App
 nameless a = record a { top = record a.top { no_binary_name = true } }
 
--- COMMAND, IMAGE, `--budget` and `--no-input`, with these commands
+-- COMMAND and IMAGE
+abbrev pub with_places : HeldTexts → App → App
+with_places names a = with_rule (with_rule a (command_rule names)) image_rule
+
+-- `--tracks`, `--workers` and `--budget`
+abbrev pub with_numbers : App → App
+with_numbers a = with_rule (with_rule (with_rule a tracks_rule) workers_rule) budget_rule
+
+-- `--no-input`, `--report` and `--journal`
+abbrev pub with_flags : App → App
+with_flags a = with_rule (with_rule (with_rule a (flag_rule (codes "no-input"))) (flag_rule (codes "report"))) (flag_rule (codes "journal"))
+
+-- all arguments, with these commands
 abbrev pub command_with : HeldTexts → App
-command_with names =
-    with_rule (with_rule (with_rule (with_rule (nameless (new_app (codes "fasttrack"))) (command_rule names)) image_rule) budget_rule) no_input_rule
+command_with names = with_flags (with_numbers (with_places names (nameless (new_app (codes "fasttrack")))))
 
 -- the command line of the program
 abbrev pub command : App
@@ -64,12 +93,17 @@ command = command_with task_names
 
 -- ---- the request
 
--- what words ask for: a task, the image, its budget, and whether the input is left unread
+-- What words ask for: a task, the image, how many regions may be open at once, how many workers there are, the budget,
+-- whether the input is left unread, and whether the report and the journal are printed
 pub record Request : Type 0 where
   pub task : Task
   pub image : List ℕ
+  pub tracks : ℕ
+  pub workers : ℕ
   pub budget : ℕ
   pub no_input : Bool
+  pub report : Bool
+  pub journal : Bool
 
 -- the value of an argument that has one
 abbrev pub value_of : Text → List Row → Text
@@ -79,44 +113,76 @@ value_of id rows = unwrap_or (first_of id rows) []
 abbrev pub number_of : Text → ℕ
 number_of text = digits_value 10 (without_leading_plus text)
 
--- the task of a name among those of the commands
-abbrev pub task_of : Text → Task
-task_of name = if bytes_eq name (codes "trial") then Trial else Alone
+-- the number of an option, and whether a flag is set
+abbrev pub number_at : Text → List Row → ℕ
+number_at id rows = number_of (value_of id rows)
 
-abbrev pub request_in : List Row → Request
-request_in rows = record {
-  task = task_of (value_of (codes "COMMAND") rows);
+abbrev pub flag_at : Text → List Row → Bool
+flag_at id rows = bytes_eq (value_of id rows) (codes "true")
+
+-- a text of 1 to 10 decimal digits and nothing else
+abbrev pub is_short_numeral : Text → Bool
+is_short_numeral text = nat_lt 0 (length text) && (nat_le (length text) 10 && list_all (λ c. nat_lt (digit_value c) 10) text)
+
+-- the number of a bench: 1 to 10 decimal digits that say less than 2^32; None for any other text
+abbrev pub bench_number : Text → Option ℕ
+bench_number text = if is_short_numeral text && nat_lt (digits_value 10 text) (2 ^ 32) then Some (digits_value 10 text) else None
+
+-- the task of a name among those of the commands, and of IMAGE, which says the number of a bench; None for a bench without
+-- a number
+abbrev pub task_of : Text → Text → Option Task
+task_of name image =
+    if bytes_eq name (codes "bench") then option_map Bench (bench_number image) else (
+    if bytes_eq name (codes "trial") then Some Trial else (
+    if bytes_eq name (codes "run") then Some Run else Some Alone))
+
+abbrev pub request_with : List Row → Task → Request
+request_with rows task = record {
+  task = task;
   image = value_of (codes "IMAGE") rows;
-  budget = number_of (value_of (codes "budget") rows);
-  no_input = bytes_eq (value_of (codes "no-input") rows) (codes "true");
+  tracks = number_at (codes "tracks") rows;
+  workers = number_at (codes "workers") rows;
+  budget = number_at (codes "budget") rows;
+  no_input = flag_at (codes "no-input") rows;
+  report = flag_at (codes "report") rows;
+  journal = flag_at (codes "journal") rows;
 }
 
+-- the task that the matches ask for
+abbrev pub task_at : List Row → Option Task
+task_at rows = task_of (value_of (codes "COMMAND") rows) (value_of (codes "IMAGE") rows)
+
+-- the request of the matches, where they have a task
+abbrev pub request_in : List Row → Option Request
+request_in rows = option_map (request_with rows) (task_at rows)
+
 -- the request, where there is no fault
-abbrev pub unless_faulty : Kinds → Request → Option Request
-unless_faulty [] request = Some request
+abbrev pub unless_faulty : Kinds → Option Request → Option Request
+unless_faulty [] request = request
 unless_faulty (k ∷ ks) request = None
 
--- The request that the words make, where `clap` takes them; None where it finds a fault with them, as it also calls
--- what asks for help.
+-- The request that the words make, where `clap` takes them and a bench has its number; None where `clap` finds a fault with
+-- them, as it also calls what asks for help, and for a bench without a number.
 abbrev pub request_of : List Text → Option Request
 request_of words = unless_faulty (fault_of command words) (request_in (matches_of command words))
 
 -- ---- the values
 
--- a number in digits, from 1 to 2^40
-abbrev pub InBudget : Text → Type 0
-InBudget text = IsNumeral 10 (without_leading_plus text) × (1 ≤ number_of text) × (number_of text ≤ 1099511627776)
+-- a positional has a value
+abbrev pub HasText : Found → Text → Type 0
+HasText f id = (text : Text) × (first_value f id ≡ Some text)
 
--- IMAGE has a value
-abbrev pub HasImage : Found → Type 0
-HasImage f = (text : Text) × (first_value f (codes "IMAGE") ≡ Some text)
+-- an option has a value, given or by default, which is a number in digits that 64 bits hold
+abbrev pub HasNumber : Found → Text → Type 0
+HasNumber f id = (text : Text) × (first_value f id ≡ Some text) × (one_text f id ≡ Some text)
+    × IsNumeral 10 (without_leading_plus text) × (number_of text < 2 ^ 64)
 
--- `--budget` has a value, given or by default, and it is in its range
-abbrev pub HasBudget : Found → Type 0
-HasBudget f = (text : Text) × (first_value f (codes "budget") ≡ Some text)
-    × (one_text f (codes "budget") ≡ Some text) × InBudget text
+-- the number of each option is in its range
+abbrev pub AreInRange : List Row → Type 0
+AreInRange rows = (1 ≤ number_at (codes "tracks") rows) × (number_at (codes "tracks") rows ≤ 32) × (number_at (codes "workers") rows ≤ 0)
+    × (1 ≤ number_at (codes "budget") rows) × (number_at (codes "budget") rows ≤ 1099511627776)
 
--- a value of `--no-input` is one of the two words for a flag
-abbrev pub HasFlag : Found → Type 0
-HasFlag f = (text : Text) → first_value f (codes "no-input") ≡ Some text
-    → (one_text f (codes "no-input") ≡ Some text) × ((text ≡ codes "true") ⊎ (text ≡ codes "false"))
+-- a value of a flag is one of the two words for it
+abbrev pub HasFlag : Found → Text → Type 0
+HasFlag f id = (text : Text) → first_value f id ≡ Some text
+    → (one_text f id ≡ Some text) × ((text ≡ codes "true") ⊎ (text ≡ codes "false"))

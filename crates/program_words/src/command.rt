@@ -2,14 +2,15 @@
 
 ghost use Rattle.std.specs.Prelude.{◌≡◌, IfOk, false};
 ghost use Rattle.clap.specs.Words.{app_of, rule_of};
-ghost use Rattle.program_words.specs.CommandLine.{HeldTexts, budget_rule, command_rule, command_with, image_rule, no_input_rule, task_names};
+ghost use Rattle.program_words.specs.CommandLine.{HeldTexts, budget_rule, command_rule, command_with, flag_rule, image_rule, option_rule, task_names, tracks_rule, workers_rule};
 ghost use Rattle.clap.specs.Walk.{texts};
 
+use clap::builder::ValueParser;
 use clap::{Arg, ArgAction, Command};
 use std::alloc::{AllocError, Global};
 
 /// The names that COMMAND may have.
-static TASKS: [&str; 2] = ["alone", "trial"];
+static TASKS: [&str; 4] = ["alone", "run", "trial", "bench"];
 
 fn command_arg<'a>(alloc: Global) -> Arg<'a>
     ensures rule { (names : HeldTexts) × (texts names.now ≡ texts task_names.now) × (rule_of result ≡ command_rule names) }
@@ -27,23 +28,46 @@ fn image_arg<'a>(alloc: Global) -> Arg<'a>
     Arg::new(alloc, "IMAGE").required(true)
 }
 
+fn option_arg<'a>(alloc: Global, name: &'a str, parser: ValueParser<'a>, default: &'a str) -> Arg<'a>
+    ensures rule { rule_of result ≡ option_rule name.now parser.entry default.now }
+    ensures local { result.global ≡ false }
+{
+    Arg::new(alloc, name)
+        .long(name)
+        .value_parser(parser)
+        .default_value(default)
+}
+
+fn tracks_arg<'a>(alloc: Global) -> Arg<'a>
+    ensures rule { rule_of result ≡ tracks_rule }
+    ensures local { result.global ≡ false }
+{
+    option_arg(alloc, "tracks", clap::value_parser!(u64).range(1..=32), "4")
+}
+
+fn workers_arg<'a>(alloc: Global) -> Arg<'a>
+    ensures rule { rule_of result ≡ workers_rule }
+    ensures local { result.global ≡ false }
+{
+    // No workers stand yet.
+    option_arg(alloc, "workers", clap::value_parser!(u64).range(0..=0), "0")
+}
+
 fn budget_arg<'a>(alloc: Global) -> Arg<'a>
     ensures rule { rule_of result ≡ budget_rule }
     ensures local { result.global ≡ false }
 {
-    Arg::new(alloc, "budget")
-        .long("budget")
-        .value_parser(clap::value_parser!(u64).range(1..=1_099_511_627_776))
-        .default_value("1099511627776")
+    let numbers = clap::value_parser!(u64).range(1..=1_099_511_627_776);
+    option_arg(alloc, "budget", numbers, "1099511627776")
 }
 
-fn no_input_arg<'a>(alloc: Global) -> Arg<'a>
-    ensures rule { rule_of result ≡ no_input_rule }
+fn flag_arg<'a>(alloc: Global, name: &'a str) -> Arg<'a>
+    ensures rule { rule_of result ≡ flag_rule name.now }
     ensures local { result.global ≡ false }
 {
     // The parser is the one that the action would set.
-    Arg::new(alloc, "no-input")
-        .long("no-input")
+    Arg::new(alloc, name)
+        .long(name)
         .value_parser(clap::value_parser!(bool))
         .action(ArgAction::SetTrue)
 }
@@ -56,6 +80,10 @@ pub fn command<'a>(alloc: Global) -> Result<Command<'a>, AllocError>
         .no_binary_name(true)
         .arg(command_arg(alloc))?
         .arg(image_arg(alloc))?
+        .arg(tracks_arg(alloc))?
+        .arg(workers_arg(alloc))?
         .arg(budget_arg(alloc))?
-        .arg(no_input_arg(alloc))
+        .arg(flag_arg(alloc, "no-input"))?
+        .arg(flag_arg(alloc, "report"))?
+        .arg(flag_arg(alloc, "journal"))
 }

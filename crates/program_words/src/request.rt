@@ -1,8 +1,8 @@
 //! What the words ask for.
 
-ghost use Rattle.std.specs.Prelude.{◌≡◌, ◌≤◌, ◌^◌, Some, None, Err, IfOk, bytes_eq, codes, map, string_bytes};
+ghost use Rattle.std.specs.Prelude.{◌≡◌, ◌≤◌, ◌^◌, Some, None, Err, IfOk, codes, map, string_bytes};
 ghost use Rattle.clap.specs.Words.{found_of, rows_of};
-ghost use Rattle.program_words.specs.CommandLine.{HasBudget, HasFlag, HasImage, number_of, request_in, request_of, task_of, value_of};
+ghost use Rattle.program_words.specs.CommandLine.{AreInRange, HasFlag, HasNumber, HasText, bench_number, flag_at, number_at, request_in, request_of, task_at, task_of, value_of};
 
 use crate::command::command;
 use clap::ArgMatches;
@@ -14,27 +14,39 @@ use std::alloc::{AllocError, Global};
 pub enum Task {
     /// Run the program of the image alone.
     Alone,
+    /// Run the program of the image with both versions of its regions.
+    Run,
     /// Check both versions of each of its regions, and report the ledger.
     Trial,
+    /// Run the generated program of this number, and report a summary.
+    Bench(u32),
 }
 
 /// What the words ask for.
 #[derive(Clone, Copy, Debug, PartialEq, Eq)]
 pub struct Request<'a> {
-    /// COMMAND
+    /// COMMAND, with the number that IMAGE says for `bench`
     pub task: Task,
-    /// IMAGE, the path of the image file
+    /// IMAGE, the path of the image file; for `bench` the digits of its number
     pub image: &'a str,
+    /// `--tracks`: the most regions that are open at once, from 1 to 32
+    pub tracks: u64,
+    /// `--workers`: the number of worker threads, which is 0, since no workers stand yet
+    pub workers: u64,
     /// `--budget`: the most instructions that the guest runs, from 1 to 2^40
     pub budget: u64,
     /// `--no-input`: the input is left unread
     pub no_input: bool,
+    /// `--report`: the ledger is printed behind the guest's output
+    pub report: bool,
+    /// `--journal`: the entries of the history are printed behind it
+    pub journal: bool,
 }
 
 /// Why the words give no request.
 #[derive(Clone, Copy, Debug, PartialEq, Eq)]
 pub enum WordsFault {
-    /// `clap` answers these words with anything but matches; a call for help is among them.
+    /// `clap` answers these words with anything but matches, a call for help among them, or a bench has no number.
     Usage,
     /// Memory ran out.
     NoMemory,
@@ -52,30 +64,44 @@ impl From<AllocError> for WordsFault {
 
 /// Reads the words of the program, without its own name.
 ///
-/// The words are those of one simple command of `clap`: COMMAND, IMAGE, `--budget` and `--no-input`.
+/// The words are those of one simple command of `clap`: COMMAND, IMAGE, `--tracks`, `--workers`, `--budget`, `--no-input`,
+/// `--report` and `--journal`. Behind `bench` IMAGE is a number of 1 to 10 decimal digits below 2^32.
 ///
 /// # Errors
-/// `Usage` exactly where `clap` finds a fault with the words, `NoMemory` where there was no room.
+/// `Usage` exactly where `clap` finds a fault with the words or a bench has no such number, `NoMemory` where there was no
+/// room.
 pub fn read_words<'a>(alloc: Global, words: &'a [String]) -> Result<Request<'a>, WordsFault>
     ensures usage { result ≡ Err WordsFault.Usage → request_of (map string_bytes words.now) ≡ None }
     ensures ok { IfOk result (λ r. request_of (map string_bytes words.now)
-        ≡ Some (record { task = r.task; image = r.image.now; budget = r.budget; no_input = r.no_input })) }
-    ensures bounds { IfOk result (λ r. (1 ≤ r.budget) × (r.budget ≤ 2 ^ 40)) }
+        ≡ Some (record { task = r.task; image = r.image.now; tracks = r.tracks; workers = r.workers; budget = r.budget; no_input = r.no_input; report = r.report; journal = r.journal })) }
+    ensures bounds { IfOk result (λ r. (1 ≤ r.tracks) × (r.tracks ≤ 32) × (r.workers ≤ 0) × (1 ≤ r.budget) × (r.budget ≤ 2 ^ 40)) }
 {
     let matches = parse_words(alloc, words)?;
+    let Some(task) = task_in(&matches) else {
+        return Err(WordsFault::Usage);
+    };
     Ok(Request {
-        task: task_in(&matches),
-        image: image_in(&matches),
-        budget: budget_in(&matches),
-        no_input: no_input_in(&matches),
+        task,
+        image: text_in(&matches, "IMAGE"),
+        tracks: number_in(&matches, "tracks"),
+        workers: number_in(&matches, "workers"),
+        budget: number_in(&matches, "budget"),
+        no_input: flag_in(&matches, "no-input"),
+        report: flag_in(&matches, "report"),
+        journal: flag_in(&matches, "journal"),
     })
 }
 
 // The matches of the words.
 fn parse_words<'a>(alloc: Global, words: &'a [String]) -> Result<ArgMatches<'a>, WordsFault>
     ensures usage { result ≡ Err WordsFault.Usage → request_of (map string_bytes words.now) ≡ None }
-    ensures rows { IfOk result (λ m. request_of (map string_bytes words.now) ≡ Some (request_in (rows_of (found_of m)))) }
-    ensures values { IfOk result (λ m. HasImage (found_of m) × HasBudget (found_of m) × HasFlag (found_of m)) }
+    ensures rows { IfOk result (λ m. request_of (map string_bytes words.now) ≡ request_in (rows_of (found_of m))) }
+    ensures texts { IfOk result (λ m. HasText (found_of m) (codes "COMMAND") × HasText (found_of m) (codes "IMAGE")) }
+    ensures numbers { IfOk result (λ m. HasNumber (found_of m) (codes "tracks") × HasNumber (found_of m) (codes "workers")
+        × HasNumber (found_of m) (codes "budget")) }
+    ensures ranges { IfOk result (λ m. AreInRange (rows_of (found_of m))) }
+    ensures flags { IfOk result (λ m. HasFlag (found_of m) (codes "no-input") × HasFlag (found_of m) (codes "report")
+        × HasFlag (found_of m) (codes "journal")) }
 {
     let mut command = command(alloc)?;
     match command.try_get_matches_from_mut(words) {
@@ -85,39 +111,58 @@ fn parse_words<'a>(alloc: Global, words: &'a [String]) -> Result<ArgMatches<'a>,
     }
 }
 
-fn task_in(matches: &ArgMatches<'_>) -> Task
-    ensures { result ≡ task_of (value_of (codes "COMMAND") (rows_of (found_of matches.now))) }
+fn task_in(matches: &ArgMatches<'_>) -> Option<Task>
+    requires { HasText (found_of matches.now) (codes "COMMAND") × HasText (found_of matches.now) (codes "IMAGE") }
+    ensures { result ≡ task_at (rows_of (found_of matches.now)) }
 {
-    match matches.get_str("COMMAND") {
-        Some(name) if name == "trial" => Task::Trial,
-        _ => Task::Alone,
+    task_of(text_in(matches, "COMMAND"), text_in(matches, "IMAGE"))
+}
+
+// The task of a name among those of the commands, where a bench has its number.
+fn task_of(name: &str, image: &str) -> Option<Task>
+    ensures { result ≡ task_of name.now image.now }
+{
+    match name {
+        "bench" => bench_number(image).map(Task::Bench),
+        "trial" => Some(Task::Trial),
+        "run" => Some(Task::Run),
+        _ => Some(Task::Alone),
     }
 }
 
-fn image_in<'a>(matches: &ArgMatches<'a>) -> &'a str
-    requires { HasImage (found_of matches.now) }
-    ensures { result.now ≡ value_of (codes "IMAGE") (rows_of (found_of matches.now)) }
+fn bench_number(text: &str) -> Option<u32>
+    ensures { result ≡ bench_number text.now }
 {
-    match matches.get_str("IMAGE") {
-        Some(image) => image,
+    // The parse alone would take a plus before the digits, and more zeros.
+    if text.len() > 10 || text.starts_with('+') {
+        return None;
+    }
+    text.parse::<u32>().ok()
+}
+
+fn text_in<'a>(matches: &ArgMatches<'a>, id: &str) -> &'a str
+    requires { HasText (found_of matches.now) id.now }
+    ensures { result.now ≡ value_of id.now (rows_of (found_of matches.now)) }
+{
+    match matches.get_str(id) {
+        Some(text) => text,
         None => unreachable!(),
     }
 }
 
-fn budget_in(matches: &ArgMatches<'_>) -> u64
-    requires { HasBudget (found_of matches.now) }
-    ensures value { result ≡ number_of (value_of (codes "budget") (rows_of (found_of matches.now))) }
-    ensures bounds { (1 ≤ result) × (result ≤ 2 ^ 40) }
+fn number_in(matches: &ArgMatches<'_>, id: &str) -> u64
+    requires { HasNumber (found_of matches.now) id.now }
+    ensures { result ≡ number_at id.now (rows_of (found_of matches.now)) }
 {
-    match matches.get_one::<u64>("budget") {
-        Some(budget) => budget,
+    match matches.get_one::<u64>(id) {
+        Some(number) => number,
         None => unreachable!(),
     }
 }
 
-fn no_input_in(matches: &ArgMatches<'_>) -> bool
-    requires { HasFlag (found_of matches.now) }
-    ensures { result ≡ bytes_eq (value_of (codes "no-input") (rows_of (found_of matches.now))) (codes "true") }
+fn flag_in(matches: &ArgMatches<'_>, id: &str) -> bool
+    requires { HasFlag (found_of matches.now) id.now }
+    ensures { result ≡ flag_at id.now (rows_of (found_of matches.now)) }
 {
-    matches.get_flag("no-input")
+    matches.get_flag(id)
 }

@@ -12,36 +12,86 @@ fn words_of(alloc: Global, line: &str) -> Result<Vec<String>, AllocError> {
     Ok(words)
 }
 
+// What words ask for that name only a command and an image.
+fn plain(task: Task, image: &str) -> Request<'_> {
+    Request {
+        task,
+        image,
+        tracks: 4,
+        workers: 0,
+        budget: 1 << 40,
+        no_input: false,
+        report: false,
+        journal: false,
+    }
+}
+
 #[test]
 fn makes_requests(rt: HostRuntime) -> Result<(), Fail> {
+    let alone = plain(Task::Alone, "x");
+    let run = plain(Task::Run, "x");
     let rows = [
-        ("alone x", Task::Alone, "x", 1 << 40, false),
-        ("trial x", Task::Trial, "x", 1 << 40, false),
-        ("alone trial", Task::Alone, "trial", 1 << 40, false),
-        ("alone x --budget 5 --no-input", Task::Alone, "x", 5, true),
+        ("alone x", alone),
+        ("run x", run),
+        ("trial x", plain(Task::Trial, "x")),
+        ("alone trial", plain(Task::Alone, "trial")),
+        ("bench 0", plain(Task::Bench(0), "0")),
+        ("bench 0000000007", plain(Task::Bench(7), "0000000007")),
+        (
+            "bench 4294967295",
+            plain(Task::Bench(4_294_967_295), "4294967295"),
+        ),
+        (
+            "alone x --budget 5 --no-input",
+            Request {
+                budget: 5,
+                no_input: true,
+                ..alone
+            },
+        ),
         (
             "--no-input --budget=7 trial dir/x",
-            Task::Trial,
-            "dir/x",
-            7,
-            true,
+            Request {
+                budget: 7,
+                no_input: true,
+                ..plain(Task::Trial, "dir/x")
+            },
         ),
         (
             "alone --budget 1099511627776 -- --help",
-            Task::Alone,
-            "--help",
-            1 << 40,
-            false,
+            plain(Task::Alone, "--help"),
+        ),
+        ("run x --tracks 1", Request { tracks: 1, ..run }),
+        (
+            "run --tracks=32 --workers 0 x",
+            Request { tracks: 32, ..run },
+        ),
+        (
+            "run x --report",
+            Request {
+                report: true,
+                ..run
+            },
+        ),
+        (
+            "run x --journal",
+            Request {
+                journal: true,
+                ..run
+            },
+        ),
+        (
+            "run x --journal --no-input --report",
+            Request {
+                no_input: true,
+                report: true,
+                journal: true,
+                ..run
+            },
         ),
     ];
-    for (line, task, image, budget, no_input) in rows {
+    for (line, wanted) in rows {
         let words = words_of(rt.alloc(), line)?;
-        let wanted = Request {
-            task,
-            image,
-            budget,
-            no_input,
-        };
         assert_eq!(rt;
             read_words(rt.alloc(), words.as_slice()),
             Ok(wanted),
@@ -71,6 +121,19 @@ fn refuses_other_words(rt: HostRuntime) -> Result<(), Fail> {
         "alone x --version",
         "alone x --nothing",
         "alone x --no-input --no-input",
+        "run",
+        "run x --tracks 0",
+        "run x --tracks 33",
+        "run x --workers 1",
+        "run x --report=true",
+        "run x --journal --journal",
+        "bench",
+        "bench x",
+        "bench +5",
+        "bench -5",
+        "bench 5x",
+        "bench 01234567890",
+        "bench 4294967296",
     ];
     for line in rows {
         let words = words_of(rt.alloc(), line)?;

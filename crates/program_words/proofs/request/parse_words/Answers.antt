@@ -1,6 +1,7 @@
-use Rattle.std.proofs.Common.{◌≡◌, ◌∙◌, sym, true, true≢false, inl, inr}
-use Rattle.program_words.proofs.ByCommand.{budget_there, flag_there, image_there, is_command, no_globals}
-use Rattle.program_words.proofs.OnWords.{gives_image, grants, refuses, simple_app, simple_command}
+use Rattle.std.proofs.Common.{◌≡◌, ◌∙◌, sym, true, true≢false}
+use Rattle.clap.specs.Words.{found_of}
+use Rattle.program_words.proofs.ByCommand.{HoldsValues, values_hold}
+use Rattle.program_words.proofs.OnWords.{gives_places, grants, refuses, simple_app, simple_command}
 use Rattle.program_words.proofs.request.parse_words.Goals as goal
 
 pub returns-in-Ok-clause-rows : goal.returns-in-Ok-clause-rows
@@ -8,17 +9,23 @@ returns-in-Ok-clause-rows c =
     let made = c.in_ok-command.ensures in
     grants made.0 made.1 _ made.2 _ _ (c.in-Ok.ensures.kinds (simple_app made.0 _ made.2)) (c.in-Ok.ensures.ok.2 (simple_command made.0 _ made.2)).0
 
-pub returns-in-Ok-clause-values : goal.returns-in-Ok-clause-values
-returns-in-Ok-clause-values c =
+values : (c : goal.In-Ok) → HoldsValues (found_of c.in-Ok.matches)
+values c =
     let made = c.in_ok-command.ensures in
-    elim c.in-Ok.ensures.after [
-      | inl broken ↦ absurd (c.in-Ok.ensures.fails broken)
-      | inr kept ↦
-          let is = is_command made.0 _ _ made.2 kept.2 in
-          let parsed = c.in-Ok.ensures.ok.1 (no_globals made.0 _ is) in
-          let image = gives_image made.0 made.1 _ made.2 _ _ (c.in-Ok.ensures.kinds (simple_app made.0 _ made.2)) (c.in-Ok.ensures.ok.2 (simple_command made.0 _ made.2)).0 in
-          (image_there made.0 _ is _ _ parsed image, budget_there made.0 _ is _ _ parsed, flag_there made.0 _ is _ _ parsed)
-    ]
+    let placed = gives_places made.0 made.1 _ made.2 _ _ (c.in-Ok.ensures.kinds (simple_app made.0 _ made.2)) (c.in-Ok.ensures.ok.2 (simple_command made.0 _ made.2)).0 in
+    values_hold made.0 _ _ made.2 c.in-Ok.ensures.after c.in-Ok.ensures.fails _ _ c.in-Ok.ensures.ok.1 placed
+
+pub returns-in-Ok-clause-texts : goal.returns-in-Ok-clause-texts
+returns-in-Ok-clause-texts c = (values c).0
+
+pub returns-in-Ok-clause-numbers : goal.returns-in-Ok-clause-numbers
+returns-in-Ok-clause-numbers c = (values c).1
+
+pub returns-in-Ok-clause-ranges : goal.returns-in-Ok-clause-ranges
+returns-in-Ok-clause-ranges c = (values c).2
+
+pub returns-in-Ok-clause-flags : goal.returns-in-Ok-clause-flags
+returns-in-Ok-clause-flags c = (values c).3
 
 pub returns-clause-usage : goal.returns-clause-usage
 returns-clause-usage c = λ e.

@@ -1,6 +1,0 @@
-use Rattle.clap.specs.Words.{found_of}
-use Rattle.program_words.proofs.ByCommand.{flag_reads}
-use Rattle.program_words.proofs.request.no_input_in.Goals as goal
-
-pub returns : goal.returns
-returns c = flag_reads (found_of c.args.matches.now) c.get_flag.result c.requires c.get_flag.ensures.none c.get_flag.ensures.value c.get_flag.ensures.other
