@@ -1,6 +1,6 @@
 //! One call of the program up to its answer's line.
 
-ghost use Rattle.std.specs.Prelude.{◌≡◌, ◌⊎◌, Some, true, false};
+ghost use Rattle.std.specs.Prelude.{◌≡◌, ◌⊎◌, [], Some, true, false};
 ghost use Rattle.host_io.specs.Faults.{Rose};
 ghost use Rattle.elf32_loader.specs.LoadedImage.{image_of_loaded};
 ghost use Rattle.program_words.specs.declared.request.Task.TheVariants.{Alone};

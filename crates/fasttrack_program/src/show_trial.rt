@@ -1,6 +1,6 @@
 //! The task `trial`: the report of an image's regions.
 
-ghost use Rattle.std.specs.Prelude.{◌≡◌, ℕ, ◌≤◌, ◌^◌, List, Option};
+ghost use Rattle.std.specs.Prelude.{◌≡◌, ℕ, ◌≤◌, ◌^◌, List, [], Option};
 ghost use Rattle.elf32_loader.specs.LoadedImage.{image_of_loaded};
 ghost use Rattle.program_words.specs.declared.request.Task.TheVariants.{Trial};
 ghost use Rattle.fasttrack_program.specs.Plan.{Runs};
