@@ -25,7 +25,7 @@ use Rattle.clap.proofs.CallerLemmas.{present_has_entry}
 use Rattle.clap.proofs.TakesLemmas.{present_row}
 use Rattle.clap.proofs.SimpleLemmas.{is_nil}
 use Rattle.clap.proofs.WalkLemmas.{first_value-rows}
-use Rattle.program_words.specs.CommandLine.{AreInRange, HasFlag, HasNumber, HasText, HeldTexts, command_with, flag_at, number_at, number_of, value_of}
+use Rattle.program_words.specs.CommandLine.{HasFlag, HasNumber, HasText, HeldTexts, HoldsValues, command_with, flag_at, number_at, number_of, value_of}
 use Rattle.program_words.proofs.OnWords.{ArePlaced}
 use Rattle.program_words.proofs.Values.{both, default_given, entry_given, first_passes, takes_value}
 
@@ -178,12 +178,6 @@ module _ (names : HeldTexts) (c : Command) (is : IsCommand names c) where
           (λ a g. ap reading_of (flag_is (parser_of a) g)) t has in
           (got.1, got.0)
 
--- what the matches hold for the arguments
-abbrev pub HoldsValues : Found → Type 0
-HoldsValues f = (HasText f (codes "COMMAND") × HasText f (codes "IMAGE"))
-    × (HasNumber f (codes "tracks") × HasNumber f (codes "workers") × HasNumber f (codes "budget"))
-    × AreInRange (rows_of f) × (HasFlag f (codes "no-input") × HasFlag f (codes "report") × HasFlag f (codes "journal"))
-
 pub values_hold : (names : HeldTexts) (old new : Command) → app_of old ≡ command_with names → BuildsOrBreaks old new → (is_broken new ≡ true → ⊥)
     → (f : Found) (used : Bool) → ((out-Command new).has_globals ≡ false → IsParsed new f used) → ArePlaced (rows_of f) → HoldsValues f
 values_hold names old new made (inl broken) whole f used parse placed = absurd (whole broken)
@@ -192,15 +186,18 @@ values_hold names old new made (inr kept) whole f used parse placed =
     let parsed = parse (no_globals names new is) in
     let tracks = number_there names new is f used parsed (codes "tracks") (λ e. cc) 1 32 (omega arith) refl refl in
     let workers = number_there names new is f used parsed (codes "workers") (λ e. cc) 0 0 (omega arith) refl refl in
-    let budget = number_there names new is f used parsed (codes "budget") (λ e. cc) 1 1099511627776 (omega arith) refl refl in
-    (
-      (text_there names new is f used parsed (codes "COMMAND") (λ e. cc) refl refl placed.0,
-      text_there names new is f used parsed (codes "IMAGE") (λ e. cc) refl refl placed.1),
+    let budget = number_there names new is f used parsed (codes "budget") (λ e. cc) 1 1099511627776 (omega arith) refl refl in (
+      (
+        text_there names new is f used parsed (codes "COMMAND") (λ e. cc) refl refl placed.0,
+        text_there names new is f used parsed (codes "IMAGE") (λ e. cc) refl refl placed.1,
+      ),
       (tracks.0, workers.0, budget.0),
       (tracks.1, tracks.2, workers.2, budget.1, budget.2),
-      (flag_there names new is f used parsed (codes "no-input") (λ e. cc) refl refl,
-      flag_there names new is f used parsed (codes "report") (λ e. cc) refl refl,
-      flag_there names new is f used parsed (codes "journal") (λ e. cc) refl refl)
+      (
+        flag_there names new is f used parsed (codes "no-input") (λ e. cc) refl refl,
+        flag_there names new is f used parsed (codes "report") (λ e. cc) refl refl,
+        flag_there names new is f used parsed (codes "journal") (λ e. cc) refl refl,
+      ),
     )
 
 -- ---- what the getters read

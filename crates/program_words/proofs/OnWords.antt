@@ -1,5 +1,5 @@
 -- What an answer of `clap` says of the request
-use Rattle.std.proofs.Common.{◌≡◌, ◌∙◌, ap, subst, refl, sym, List, [], ◌∷◌, inl, inr, Some, None, true}
+use Rattle.std.proofs.Common.{◌≡◌, ◌∙◌, ap, subst, refl, sym, List, [], ◌∷◌, inl, inr, Option, None, true}
 use Rattle.clap.specs.Words.{App, HasKind, IsAmong, Kinds, Row, Text, fault_of, is_simple, is_simple_and_free, kind_of, matches_of}
 use Rattle.clap.specs.Walk.{texts}
 use Rattle.clap.specs.declared.Error.{Error}

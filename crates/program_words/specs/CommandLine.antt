@@ -5,7 +5,7 @@ use Rattle.std.specs.Borrow.{Bor}
 use Rattle.std.specs.Char.{digit_value}
 use Rattle.std.specs.Str.{bytes_eq}
 use Rattle.std.specs.Str.Parse.{digits_value, IsNumeral, without_leading_plus}
-use Rattle.clap.specs.Words.{App, Kinds, Row, Rule, Text, fault_of, first_of, matches_of, new_app, new_rule, with_rule}
+use Rattle.clap.specs.Words.{App, Kinds, Row, Rule, Text, fault_of, first_of, matches_of, new_app, new_rule, rows_of, with_rule}
 use Rattle.clap.specs.Matches.{first_value, one_text}
 use Rattle.clap.specs.declared.parser.matches.Found.{Found}
 use Rattle.clap.specs.declared.builder.ArgAction.TheVariants.{SetTrue}
@@ -186,3 +186,10 @@ AreInRange rows = (1 ≤ number_at (codes "tracks") rows) × (number_at (codes "
 abbrev pub HasFlag : Found → Text → Type 0
 HasFlag f id = (text : Text) → first_value f id ≡ Some text
     → (one_text f id ≡ Some text) × ((text ≡ codes "true") ⊎ (text ≡ codes "false"))
+
+-- what the matches of the command hold for its arguments
+abbrev pub HoldsValues : Found → Type 0
+HoldsValues f = (HasText f (codes "COMMAND") × HasText f (codes "IMAGE"))
+    × (HasNumber f (codes "tracks") × HasNumber f (codes "workers") × HasNumber f (codes "budget"))
+    × AreInRange (rows_of f)
+    × (HasFlag f (codes "no-input") × HasFlag f (codes "report") × HasFlag f (codes "journal"))

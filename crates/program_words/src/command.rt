@@ -28,7 +28,12 @@ fn image_arg<'a>(alloc: Global) -> Arg<'a>
     Arg::new(alloc, "IMAGE").required(true)
 }
 
-fn option_arg<'a>(alloc: Global, name: &'a str, parser: ValueParser<'a>, default: &'a str) -> Arg<'a>
+fn option_arg<'a>(
+    alloc: Global,
+    name: &'a str,
+    parser: ValueParser<'a>,
+    default: &'a str,
+) -> Arg<'a>
     ensures rule { rule_of result ≡ option_rule name.now parser.entry default.now }
     ensures local { result.global ≡ false }
 {

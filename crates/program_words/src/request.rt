@@ -2,7 +2,7 @@
 
 ghost use Rattle.std.specs.Prelude.{◌≡◌, ◌≤◌, ◌^◌, Some, None, Err, IfOk, codes, map, string_bytes};
 ghost use Rattle.clap.specs.Words.{found_of, rows_of};
-ghost use Rattle.program_words.specs.CommandLine.{AreInRange, HasFlag, HasNumber, HasText, bench_number, flag_at, number_at, request_in, request_of, task_at, task_of, value_of};
+ghost use Rattle.program_words.specs.CommandLine.{HasFlag, HasNumber, HasText, HoldsValues, bench_number, flag_at, number_at, request_in, request_of, task_at, task_of, value_of};
 
 use crate::command::command;
 use clap::ArgMatches;
@@ -96,12 +96,7 @@ pub fn read_words<'a>(alloc: Global, words: &'a [String]) -> Result<Request<'a>,
 fn parse_words<'a>(alloc: Global, words: &'a [String]) -> Result<ArgMatches<'a>, WordsFault>
     ensures usage { result ≡ Err WordsFault.Usage → request_of (map string_bytes words.now) ≡ None }
     ensures rows { IfOk result (λ m. request_of (map string_bytes words.now) ≡ request_in (rows_of (found_of m))) }
-    ensures texts { IfOk result (λ m. HasText (found_of m) (codes "COMMAND") × HasText (found_of m) (codes "IMAGE")) }
-    ensures numbers { IfOk result (λ m. HasNumber (found_of m) (codes "tracks") × HasNumber (found_of m) (codes "workers")
-        × HasNumber (found_of m) (codes "budget")) }
-    ensures ranges { IfOk result (λ m. AreInRange (rows_of (found_of m))) }
-    ensures flags { IfOk result (λ m. HasFlag (found_of m) (codes "no-input") × HasFlag (found_of m) (codes "report")
-        × HasFlag (found_of m) (codes "journal")) }
+    ensures values { IfOk result (λ m. HoldsValues (found_of m)) }
 {
     let mut command = command(alloc)?;
     match command.try_get_matches_from_mut(words) {

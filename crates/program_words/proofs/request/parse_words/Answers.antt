@@ -1,6 +1,5 @@
 use Rattle.std.proofs.Common.{◌≡◌, ◌∙◌, sym, true, true≢false}
-use Rattle.clap.specs.Words.{found_of}
-use Rattle.program_words.proofs.ByCommand.{HoldsValues, values_hold}
+use Rattle.program_words.proofs.ByCommand.{values_hold}
 use Rattle.program_words.proofs.OnWords.{gives_places, grants, refuses, simple_app, simple_command}
 use Rattle.program_words.proofs.request.parse_words.Goals as goal
 
@@ -9,23 +8,11 @@ returns-in-Ok-clause-rows c =
     let made = c.in_ok-command.ensures in
     grants made.0 made.1 _ made.2 _ _ (c.in-Ok.ensures.kinds (simple_app made.0 _ made.2)) (c.in-Ok.ensures.ok.2 (simple_command made.0 _ made.2)).0
 
-values : (c : goal.In-Ok) → HoldsValues (found_of c.in-Ok.matches)
-values c =
+pub returns-in-Ok-clause-values : goal.returns-in-Ok-clause-values
+returns-in-Ok-clause-values c =
     let made = c.in_ok-command.ensures in
     let placed = gives_places made.0 made.1 _ made.2 _ _ (c.in-Ok.ensures.kinds (simple_app made.0 _ made.2)) (c.in-Ok.ensures.ok.2 (simple_command made.0 _ made.2)).0 in
     values_hold made.0 _ _ made.2 c.in-Ok.ensures.after c.in-Ok.ensures.fails _ _ c.in-Ok.ensures.ok.1 placed
-
-pub returns-in-Ok-clause-texts : goal.returns-in-Ok-clause-texts
-returns-in-Ok-clause-texts c = (values c).0
-
-pub returns-in-Ok-clause-numbers : goal.returns-in-Ok-clause-numbers
-returns-in-Ok-clause-numbers c = (values c).1
-
-pub returns-in-Ok-clause-ranges : goal.returns-in-Ok-clause-ranges
-returns-in-Ok-clause-ranges c = (values c).2
-
-pub returns-in-Ok-clause-flags : goal.returns-in-Ok-clause-flags
-returns-in-Ok-clause-flags c = (values c).3
 
 pub returns-clause-usage : goal.returns-clause-usage
 returns-clause-usage c = λ e.
