@@ -41,6 +41,36 @@ FailsAt-from : (s t u : Sinks) (rest more : List Mark) → IsCalm s t → FailsA
 FailsAt-from s t u rest more c (inl h) = inl (subst (λ n. Rose n u.out_faults) c.on_out h.0, h.1 ∙ c.on_notes, IsNext-more 1 rest more h.2)
 FailsAt-from s t u rest more c (inr h) = inr (subst (λ n. Rose n u.notes_faults) c.on_notes h.0, h.1 ∙ c.on_out, IsNext-more 2 rest more h.2)
 
+pub GetsAll-nothing : (s : Sinks) → GetsAll s s []
+GetsAll-nothing s = record { gets = Gets-nothing s; calm = IsCalm-refl s }
+
+pub GetsAll-more : (s t u : Sinks) (xs ys : List Mark) → GetsAll s t xs → GetsAll t u ys → GetsAll s u (xs ++ ys)
+GetsAll-more s t u xs ys p q = record { gets = Gets-more s t u xs ys p.gets q.gets; calm = IsCalm-trans s t u p.calm q.calm }
+
+-- a piece amid an output could not be written whole
+pub StopsShort-amid : (s t u : Sinks) (before piece after : List Mark) → GetsAll s t before → StopsShort t u piece → StopsShort s u (before ++ (piece ++ after))
+StopsShort-amid s t u before piece after p h = record {
+  got = before ++ h.got;
+  rest = h.rest ++ after;
+  parts = append_assoc before h.got (h.rest ++ after) ∙ ap (λ ms. before ++ ms) (sym (append_assoc h.got h.rest after) ∙ ap (λ ms. ms ++ after) h.parts);
+  gets = Gets-more s t u before h.got p.gets h.gets;
+  fails = FailsAt-from s t u h.rest after p.calm h.fails;
+}
+
+-- what comes behind was not written
+pub GetsPart-of : (s t : Sinks) (xs after : List Mark) → GetsAll s t xs → GetsPart s t (xs ++ after)
+GetsPart-of s t xs after p = record { got = xs; rest = after; parts = refl; gets = p.gets; calm = p.calm }
+
+-- or a part of it was
+pub GetsPart-more : (s t u : Sinks) (xs ys : List Mark) → GetsAll s t xs → GetsPart t u ys → GetsPart s u (xs ++ ys)
+GetsPart-more s t u xs ys p h = record {
+  got = xs ++ h.got;
+  rest = h.rest;
+  parts = append_assoc xs h.got h.rest ∙ ap (λ ms. xs ++ ms) h.parts;
+  gets = Gets-more s t u xs h.got p.gets h.gets;
+  calm = IsCalm-trans s t u p.calm h.calm;
+}
+
 -- ---- one piece
 
 pub stream_bytes-own_1 : (bs : List ℕ) → stream_bytes 1 (marked 1 bs) ≡ bs
@@ -202,27 +232,13 @@ module _ {S D : Type 0} (m : Machine S End D) where
   SoFar-fails : (start : S) (done budget : ℕ) (s t : S) (stream : ℕ) (bytes : List ℕ) (old now next : Sinks) → SoFar start done s old now → m.step s ≡ Next t stream bytes → done < budget → StopsShort now next (marked stream bytes) → StopsShort old next (output_of (alone m start budget))
   SoFar-fails start done budget s t stream bytes old now next so step lt h =
       let split = output-split start done budget s t stream bytes so.stands step lt in
-      record {
-        got = out m (fresh start) done ++ h.got;
-        rest = h.rest ++ split.0;
-        parts = append_assoc (out m (fresh start) done) h.got (h.rest ++ split.0)
-            ∙ ap (λ ms. out m (fresh start) done ++ ms) (sym (append_assoc h.got h.rest split.0) ∙ ap (λ ms. ms ++ split.0) h.parts)
-            ∙ split.1;
-        gets = Gets-more old now next (out m (fresh start) done) h.got so.written.gets h.gets;
-        fails = FailsAt-from old now next h.rest split.0 so.written.calm h.fails;
-      }
+      subst (StopsShort old next) split.1 (StopsShort-amid old now next (out m (fresh start) done) (marked stream bytes) split.0 so.written h)
 
   -- there was no memory for a piece
   SoFar-refused : (start : S) (done budget : ℕ) (s t : S) (stream : ℕ) (bytes : List ℕ) (old now : Sinks) → SoFar start done s old now → m.step s ≡ Next t stream bytes → done < budget → GetsPart old now (output_of (alone m start budget))
   SoFar-refused start done budget s t stream bytes old now so step lt =
       let split = output-split start done budget s t stream bytes so.stands step lt in
-      record {
-        got = out m (fresh start) done;
-        rest = marked stream bytes ++ split.0;
-        parts = split.1;
-        gets = so.written.gets;
-        calm = so.written.calm;
-      }
+      subst (GetsPart old now) split.1 (GetsPart-of old now (out m (fresh start) done) (marked stream bytes ++ split.0) so.written)
 
   -- a piece that could not be passed on
   pub SoFar-refuses : (T : Type 0) (start : S) (done budget : ℕ) (s t : S) (stream : ℕ) (bytes : List ℕ) (old now next : Sinks) (f : OutputFault) → SoFar start done s old now → m.step s ≡ Next t stream bytes → done < budget → PassesOn {T = T} now next (marked stream bytes) (Err f) → Leaves (alone m start budget) old next (Err f)

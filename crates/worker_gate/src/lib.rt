@@ -6,3 +6,6 @@ mod serial;
 
 pub use conducted::Conducted;
 pub use serial::conduct_serial;
+
+#[cfg(test)]
+mod tests;

@@ -1,0 +1,5 @@
+pub mod Releases
+pub mod OnRounds
+pub mod OnSlices
+pub mod OnChunks
+pub mod OnOutcomes
