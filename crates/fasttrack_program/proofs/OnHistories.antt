@@ -18,7 +18,7 @@ use Rattle.fasttrack_program.specs.declared.options.Options.{Options}
 use Rattle.fasttrack_program.specs.declared.answer.Answer.{Answer}
 use Rattle.fasttrack_program.specs.declared.answer.Answer.TheVariants.{Exited, Trapped, Spent, Shown, Usage, ReadFault, ImageTooLong, BadImage, InputTooLong, WriteFault, NoMemory}
 use Rattle.fasttrack_program.specs.AnswerLine.{line_of, unless_told, HasNumbers, IsSaidFor, Tells, TellsLine, Concludes}
-use Rattle.fasttrack_program.specs.Plan.{Refusal, LongImage, LongInput, Refused, Runs, options_of, refused_file, image_in, image_limit, input_limit, with_input, with_image, bench_regions, bench_image, with_bench, plan_of, plan}
+use Rattle.fasttrack_program.specs.Plan.{Refusal, LongImage, LongInput, Refused, Runs, options_of, refused_file, image_in, image_limit, input_limit, with_input, with_image, bench_regions, bench_image, with_bench, bench_plan, plan_of, plan}
 use Rattle.fasttrack_program.specs.Serving.{handed, handed_by, completes, with_history}
 use Rattle.fasttrack_program.specs.TopCall.{settings_of, HasHistory, HasHistoryOf, hands_out, histories_after}
 use Rattle.fasttrack_program.proofs.OnImages.{image-guest}
@@ -70,13 +70,16 @@ history_by_file r file input =
     history_by_image r input (image_in file)
     (λ i e some. image-guest some file i (image_in-ok_by (nat_lt image_limit (length file)) (image file) i e))
 
+pub history_of_bench : (number : ℕ) (o : Options) → (entries : List Entry) × HasHistoryOf (bench_plan number o) entries
+history_of_bench number o =
+    history_by_bench number o (bench_image number)
+    (λ i e. image-guest [] (generated number bench_regions) i (refused_file-ok (image (generated number bench_regions)) i e))
+
 history_by_task : (task : Task) (r : Request) (file input : List ℕ) → (entries : List Entry) × HasHistoryOf (plan_of task r file input) entries
 history_by_task Alone r file input = history_by_file r file input
 history_by_task Run r file input = history_by_file r file input
 history_by_task Trial r file input = history_by_file r file input
-history_by_task (Bench number) r file input =
-    history_by_bench number (options_of r) (bench_image number)
-    (λ i e. image-guest [] (generated number bench_regions) i (refused_file-ok (image (generated number bench_regions)) i e))
+history_by_task (Bench number) r file input = history_of_bench number (options_of r)
 
 pub history_of : (r : Option Request) (file input : List ℕ) → (entries : List Entry) × HasHistoryOf (plan r file input) entries
 history_of None file input = ([], refl)

@@ -7,3 +7,4 @@ pub mod Serving
 pub mod Status
 pub mod TextOnSink
 pub mod TopCall
+pub mod Tracks

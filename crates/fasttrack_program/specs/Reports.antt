@@ -62,9 +62,14 @@ abbrev pub journal_text : List Entry → List ℕ
 journal_text [] = []
 journal_text (x ∷ xs) = text_of x ++ (10 ∷ journal_text xs)
 
--- ---- both
+-- ---- the texts that are asked for behind the guest's output, of these rows, this end and these entries
 
--- the texts that are asked for, of these rows, this end and these entries: the report, then the journal
+abbrev pub asked_report : Options → List Row → Finished → List ℕ
+asked_report o rows f = if o.report then report rows f.count f.end else []
+
+abbrev pub asked_journal : Options → List Entry → List ℕ
+asked_journal o entries = if o.journal then journal_text entries else []
+
+-- the report, then the journal
 abbrev pub asked_texts : Options → List Row → Finished → List Entry → List ℕ
-asked_texts o rows f entries =
-    (if o.report then report rows f.count f.end else []) ++ (if o.journal then journal_text entries else [])
+asked_texts o rows f entries = asked_report o rows f ++ asked_journal o entries

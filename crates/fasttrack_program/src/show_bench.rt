@@ -16,7 +16,7 @@ ghost use Rattle.fasttrack_program.specs.TextOnSink.{WritesText};
 ghost use Rattle.fasttrack_program.specs.TopCall.{settings_of};
 
 use crate::answer::Answer;
-use crate::boards::make_board;
+use crate::boards::run_tracks;
 use crate::options::Options;
 use crate::report::write_line;
 use crate::served::{Served, plain};
@@ -29,7 +29,7 @@ use report_text::bench_text;
 use rv32_asm::generate;
 use std::alloc::Global;
 use track_board::{Entry, Outcome};
-use worker_gate::{Conducted, conduct_serial};
+use worker_gate::Conducted;
 
 /// How many regions the program of a bench has.
 const REGIONS: u32 = 64;
@@ -49,10 +49,14 @@ pub fn show_bench<O: Sink>(alloc: Global, number: u32, options: &Options, out: &
     let Ok(loaded) = load_bench(alloc, number) else {
         return plain(Answer::NoMemory);
     };
-    let Ok(mut board) = make_board(alloc, &loaded, Bytes::new(alloc), options) else {
-        return plain(Answer::NoMemory);
-    };
-    let outcome = match conduct_serial(&mut board, &mut CountSink::new(), &mut CountSink::new()) {
+    let outcome = match run_tracks(
+        alloc,
+        &loaded,
+        Bytes::new(alloc),
+        options,
+        &mut CountSink::new(),
+        &mut CountSink::new(),
+    ) {
         Conducted::Done(outcome) => outcome,
         // A sink that counts doesn't fail.
         Conducted::WriteFault => unreachable!(),

@@ -7,13 +7,13 @@ ghost use Rattle.program_words.specs.declared.request.Task.TheVariants.{Run};
 ghost use Rattle.region_ledger.specs.Ledger.{ledger_rows, SavesAtMostAll};
 ghost use Rattle.track_board.specs.Value.{IsSettings};
 ghost use Rattle.fasttrack_program.specs.Plan.{Runs};
-ghost use Rattle.fasttrack_program.specs.Reports.{asked_texts};
+ghost use Rattle.fasttrack_program.specs.Reports.{asked_report, asked_journal, asked_texts};
 ghost use Rattle.fasttrack_program.specs.Serving.{IsDone};
 ghost use Rattle.fasttrack_program.specs.TextOnSink.{WritesText};
 ghost use Rattle.fasttrack_program.specs.TopCall.{settings_of};
 
 use crate::answer::{Answer, answer_of};
-use crate::boards::make_board;
+use crate::boards::run_tracks;
 use crate::journal::write_journal;
 use crate::options::Options;
 use crate::report::write_report;
@@ -25,7 +25,7 @@ use host_io::Sink;
 use region_ledger::{Finished, Row};
 use std::alloc::Global;
 use track_board::{Entry, Outcome};
-use worker_gate::{Conducted, conduct_serial};
+use worker_gate::Conducted;
 
 /// Runs the guest with tracks on one thread, and writes the texts that are asked for on `notes` once its end was reached.
 /// What it writes and how it ends is what the guest alone writes and how that ends.
@@ -44,10 +44,7 @@ pub fn show_run<O: Sink, N: Sink>(
         result }
     ensures reads_nothing { result.answer ≡ Answer.ReadFault → ⊥ }
 {
-    let Ok(mut board) = make_board(alloc, loaded, input, options) else {
-        return plain(Answer::NoMemory);
-    };
-    let outcome = match conduct_serial(&mut board, out, notes) {
+    let outcome = match run_tracks(alloc, loaded, input, options, out, notes) {
         Conducted::Done(outcome) => outcome,
         Conducted::WriteFault => return plain(Answer::WriteFault),
         Conducted::NoMemory => return plain(Answer::NoMemory),
@@ -95,11 +92,41 @@ fn write_texts<N: Sink>(
     ensures { WritesText (N.contents notes.old) (N.contents notes.new) (N.faults notes.old) (N.faults notes.new)
         (asked_texts options.now rows.now finished.now entries.now) result }
 {
-    if options.report {
-        write_report(alloc, rows, finished, notes)?;
+    write_asked_report(alloc, options, rows, finished, notes)?;
+    write_asked_journal(alloc, options, entries, notes)
+}
+
+/// Writes the report, if it is asked for.
+fn write_asked_report<N: Sink>(
+    alloc: Global,
+    options: &Options,
+    rows: &[Row],
+    finished: &Finished,
+    notes: &mut N,
+) -> Result<(), OutputFault>
+    requires inside { originals (ledger_rows rows.now) ≤ finished.now.count }
+    requires saves { All SavesAtMostAll rows.now }
+    ensures { WritesText (N.contents notes.old) (N.contents notes.new) (N.faults notes.old) (N.faults notes.new)
+        (asked_report options.now rows.now finished.now) result }
+{
+    if !options.report {
+        return Ok(());
     }
-    if options.journal {
-        write_journal(alloc, entries, notes)?;
+    write_report(alloc, rows, finished, notes)
+}
+
+/// Writes the journal, if it is asked for.
+fn write_asked_journal<N: Sink>(
+    alloc: Global,
+    options: &Options,
+    entries: &[Entry],
+    notes: &mut N,
+) -> Result<(), OutputFault>
+    ensures { WritesText (N.contents notes.old) (N.contents notes.new) (N.faults notes.old) (N.faults notes.new)
+        (asked_journal options.now entries.now) result }
+{
+    if !options.journal {
+        return Ok(());
     }
-    Ok(())
+    write_journal(alloc, entries, notes)
 }

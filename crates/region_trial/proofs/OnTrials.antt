@@ -33,7 +33,7 @@ ledger_rows-push (x ∷ rows) r = ap (λ rs. ledger_row x ∷ rs) (ledger_rows-p
 saves-row : (r : Row) → FastWithin r.original r.fast (core_verdict r.verdict) → SavesAtMostAll r
 saves-row r h = λ kept. subst (λ v. FastWithin r.original r.fast (core_verdict v)) kept h
 
-saves-rows : (rows : List Row) → RowsWithin (ledger_rows rows) → All SavesAtMostAll rows
+pub saves-rows : (rows : List Row) → RowsWithin (ledger_rows rows) → All SavesAtMostAll rows
 saves-rows [] h = All-nil SavesAtMostAll
 saves-rows (r ∷ rows) h = All-cons SavesAtMostAll r rows (saves-row r h.0) (saves-rows rows h.1)
 
