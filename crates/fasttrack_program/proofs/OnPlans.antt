@@ -1,9 +1,10 @@
 -- From what was read and run to the plan of the call
-use Rattle.std.proofs.Common.{◌≡◌, ℕ, ◌<◌, true, false, List, [], length, Option, Some, None, Result, Ok, Err, inl, inr, refl, sym, ap, ◌∙◌, subst, append-nil, arith}
+use Rattle.std.proofs.Common.{◌≡◌, ℕ, ◌<◌, true, false, List, [], length, Option, Some, None, IfSome, Result, Ok, Err, inl, inr, refl, sym, ap, ◌∙◌, subst, append-nil, arith}
 use Rattle.std.specs.Prelude.{nat_lt}
 use Rattle.std.proofs.lemmas.Bool.{lt-ltb}
 use Rattle.std.proofs.lemmas.Bool.Decides.{nat_tests}
 use Rattle.speculation.specs.declared.history.Entry.{Entry}
+use Rattle.host_io.specs.Faults.{Rose}
 use Rattle.elf32_loader.specs.LoadedImage.{image_of_loaded}
 use Rattle.elf32_loader.specs.declared.loaded.Loaded.{Loaded}
 use Rattle.basic_types.specs.declared.bytes.Bytes.{Bytes}
@@ -17,14 +18,19 @@ use Rattle.program_words.specs.declared.request.Task.TheVariants.{Alone, Run, Tr
 use Rattle.fasttrack_program.specs.declared.options.Options.{Options}
 use Rattle.fasttrack_program.specs.declared.served.Served.{Served}
 use Rattle.fasttrack_program.specs.Plan.{Plan, Refusal, Refused, Runs, LongImage, BadFile, LongInput, options_of, image_in, input_limit, with_image, with_input, bench_plan, plan_of, plan}
-use Rattle.fasttrack_program.specs.Reading.{IsTold, ReadsImage, ReadsInput}
+use Rattle.fasttrack_program.specs.Reading.{IsTold, ReadsImage, ReadsInput, CountsReadFault}
 use Rattle.fasttrack_program.specs.AnswerLine.{HasNumbers, IsSaidFor, Concludes}
 use Rattle.fasttrack_program.specs.Serving.{answer_of, plainly, completes, with_history, IsDone, IsServedWith}
-use Rattle.fasttrack_program.specs.TopCall.{task_output, EndsAsGuest, StaysWithin, Serves, HasHistoryOf, IsServed, IsAnswered, is_bench, hands_out}
+use Rattle.fasttrack_program.specs.TopCall.{task_output, EndsAsGuest, StaysWithin, Serves, HasHistoryOf, IsServed, IsAnswered, IsRefusedEarly, is_bench, hands_out}
 use Rattle.fasttrack_program.specs.declared.answer.Answer.{Answer}
 use Rattle.fasttrack_program.specs.declared.answer.Answer.TheVariants.{Exited, Trapped, Spent, Shown, Usage, ReadFault, ImageTooLong, BadImage, InputTooLong, WriteFault, NoMemory}
 use Rattle.guest_streams.proofs.OnStreams.{Gets-nothing, IsCalm-refl}
 use Rattle.fasttrack_program.proofs.OnHistories.{history_of, handed-nothing, added}
+
+-- what holds of every value holds of the one that may be there
+pub of_any : {A : Type 0} (o : Option A) (P : A → Type 0) → ((x : A) → P x) → IfSome o P
+of_any None P h = tt
+of_any (Some x) P h = h x
 
 -- some bytes that are told
 told_bytes : (told : Option (List ℕ)) → List ℕ
@@ -77,6 +83,12 @@ served-read_fault : (r : Option Request) (told_file told_input : Option (List �
 served-read_fault r told_file told_input s = served-anyhow r told_file told_input s ReadFault refl (λ p entries. refl)
 
 -- ---- the image and the input
+
+pub no_bench : (task : Task) → ((number : ℕ) → task ≡ Bench number → ⊥) → is_bench task ≡ false
+no_bench Alone h = refl
+no_bench Run h = refl
+no_bench Trial h = refl
+no_bench (Bench number) h = absurd (h number refl)
 
 -- a task that is no bench reads the image file
 reads_image_by : (task : Task) (r : Request) (file input : List ℕ) → is_bench task ≡ false → plan_of task r file input ≡ with_image r input (image_in file)
@@ -178,6 +190,46 @@ pub serves-end : (task : Task) (i : Image) (input : List ℕ) (o : Options) (ent
 serves-end task i input o entries old new (E.Exit code) ends got is = (ends, got, is)
 serves-end task i input o entries old new (E.Trap trap pc) ends got is = (ends, got, is)
 serves-end task i input o entries old new E.Spent ends got is = (ends, got, is)
+
+-- ---- answers that come before the input's place
+
+early-input : (told : Option (List ℕ)) (a : Answer) → ReadsInput told (Err a) → IsRefusedEarly a → ⊥
+early-input told Usage h e = h
+early-input told ImageTooLong h e = h
+early-input told (BadImage f) h e = h
+early-input told (Exited c) h e = e
+early-input told (Trapped t pc) h e = e
+early-input told Spent h e = e
+early-input told Shown h e = e
+early-input told ReadFault h e = e
+early-input told InputTooLong h e = e
+early-input told WriteFault h e = e
+early-input told NoMemory h e = e
+
+-- a refused input is none of them
+pub late-input : (told : Option (List ℕ)) (a : Answer) (v : Served) → ReadsInput told (Err a) → v ≡ plainly a → IsRefusedEarly v.answer → ⊥
+late-input told a v h e early = early-input told a h (subst (λ (x : Served). IsRefusedEarly x.answer) e early)
+
+early-runs : (task : Task) (i : Image) (input : List ℕ) (o : Options) (entries : List Entry) (old new : Sinks) (a : Answer) → Serves (Runs task i input o) entries old new a → IsRefusedEarly a → ⊥
+early-runs task i input o entries old new Usage h e = (let is = h.0 in absurd (cc))
+early-runs task i input o entries old new ImageTooLong h e = (let is = h.0 in absurd (cc))
+early-runs task i input o entries old new (BadImage f) h e = h.0
+early-runs task i input o entries old new (Exited c) h e = e
+early-runs task i input o entries old new (Trapped t pc) h e = e
+early-runs task i input o entries old new Spent h e = e
+early-runs task i input o entries old new Shown h e = e
+early-runs task i input o entries old new ReadFault h e = e
+early-runs task i input o entries old new InputTooLong h e = e
+early-runs task i input o entries old new WriteFault h e = e
+early-runs task i input o entries old new NoMemory h e = e
+
+-- nor is what a guest that ran comes to
+pub late-runs : (task : Task) (i : Image) (input : List ℕ) (o : Options) (old new : Sinks) (v : Served) → IsDone task (Runs task i input o) old new v → IsRefusedEarly v.answer → ⊥
+late-runs task i input o old new v d e = early-runs task i input o d.entries old new v.answer d.serves e
+
+-- a read fault of the image is counted
+pub counted-image : (T : Type 0) (old new : ℕ) (a : Answer) (v : Served) → CountsReadFault {T = T} old new (Err a) → v ≡ plainly a → v.answer ≡ ReadFault → Rose old new
+counted-image T old new a v h e is = subst (λ x. CountsReadFault {T = T} old new (Err x)) (sym (ap (λ (x : Served). x.answer) e) ∙ is) h
 
 -- ---- an answer whose line could not be made
 
