@@ -1,23 +1,36 @@
 -- From what was read and run to the plan of the call
-use Rattle.std.proofs.Common.{◌≡◌, ℕ, ◌<◌, true, false, List, [], length, Option, Some, None, Ok, Err, inl, inr, refl, sym, ap, ◌∙◌, subst, append-nil, arith}
+use Rattle.std.proofs.Common.{◌≡◌, ℕ, ◌<◌, true, false, List, [], length, Option, Some, None, IfSome, Result, Ok, Err, inl, inr, refl, sym, ap, ◌∙◌, subst, append-nil, arith}
 use Rattle.std.specs.Prelude.{nat_lt}
 use Rattle.std.proofs.lemmas.Bool.{lt-ltb}
 use Rattle.std.proofs.lemmas.Bool.Decides.{nat_tests}
-use Rattle.speculation.specs.Record.{output_of}
+use Rattle.speculation.specs.declared.history.Entry.{Entry}
+use Rattle.host_io.specs.Faults.{Rose}
 use Rattle.elf32_loader.specs.LoadedImage.{image_of_loaded}
 use Rattle.elf32_loader.specs.declared.loaded.Loaded.{Loaded}
 use Rattle.basic_types.specs.declared.bytes.Bytes.{Bytes}
 use Rattle.guest_model.specs.Image.{Image, program_alone}
-use Rattle.guest_streams.specs.GuestStreams.{Sinks}
+use Rattle.guest_model.specs.declared.end.End.{End}
+use Rattle.guest_model.specs.declared.end.End.TheVariants as E
+use Rattle.guest_streams.specs.GuestStreams.{Sinks, GetsAll, end_of}
 use Rattle.program_words.specs.CommandLine.{Request}
-use Rattle.program_words.specs.declared.request.Task.TheVariants.{Alone, Trial}
-use Rattle.fasttrack_program.specs.Plan.{Plan, Refused, Runs, LongInput, image_in, input_limit, with_image, with_input, plan}
-use Rattle.fasttrack_program.specs.Reading.{IsTold, ReadsImage, ReadsInput}
+use Rattle.program_words.specs.declared.request.Task.{Task}
+use Rattle.program_words.specs.declared.request.Task.TheVariants.{Alone, Run, Trial, Bench}
+use Rattle.fasttrack_program.specs.declared.options.Options.{Options}
+use Rattle.fasttrack_program.specs.declared.served.Served.{Served}
+use Rattle.fasttrack_program.specs.Plan.{Plan, Refusal, Refused, Runs, LongImage, BadFile, LongInput, options_of, image_in, input_limit, with_image, with_input, bench_plan, plan_of, plan}
+use Rattle.fasttrack_program.specs.Reading.{IsTold, ReadsImage, ReadsInput, CountsReadFault}
 use Rattle.fasttrack_program.specs.AnswerLine.{HasNumbers, IsSaidFor, Concludes}
-use Rattle.fasttrack_program.specs.TopCall.{task_output, StaysWithin, Serves, IsServed, IsAnswered}
+use Rattle.fasttrack_program.specs.Serving.{answer_of, plainly, completes, with_history, IsDone, IsServedWith}
+use Rattle.fasttrack_program.specs.TopCall.{task_output, EndsAsGuest, StaysWithin, Serves, HasHistoryOf, IsServed, IsAnswered, IsRefusedEarly, is_bench, hands_out}
 use Rattle.fasttrack_program.specs.declared.answer.Answer.{Answer}
 use Rattle.fasttrack_program.specs.declared.answer.Answer.TheVariants.{Exited, Trapped, Spent, Shown, Usage, ReadFault, ImageTooLong, BadImage, InputTooLong, WriteFault, NoMemory}
 use Rattle.guest_streams.proofs.OnStreams.{Gets-nothing, IsCalm-refl}
+use Rattle.fasttrack_program.proofs.OnHistories.{history_of, handed-nothing, added}
+
+-- what holds of every value holds of the one that may be there
+pub of_any : {A : Type 0} (o : Option A) (P : A → Type 0) → ((x : A) → P x) → IfSome o P
+of_any None P h = tt
+of_any (Some x) P h = h x
 
 -- some bytes that are told
 told_bytes : (told : Option (List ℕ)) → List ℕ
@@ -30,160 +43,239 @@ told_are None = tt
 told_are (Some bs) = refl
 
 -- nothing was written
-pub StaysWithin-refl : (p : Plan) (s : Sinks) → StaysWithin p s s
-StaysWithin-refl (Refused r) s = refl
-StaysWithin-refl (Runs task i input budget) s = record {
+pub StaysWithin-refl : (p : Plan) (entries : List Entry) (s : Sinks) → StaysWithin p entries s s
+StaysWithin-refl (Refused r) entries s = refl
+StaysWithin-refl (Runs task i input o) entries s = record {
   got = [];
-  rest = task_output task i input budget;
+  rest = task_output task i input o entries;
   parts = refl;
   gets = Gets-nothing s;
   calm = IsCalm-refl s;
 }
 
+-- a call that was served before the guest ran, for some file and some input
+module _ (r : Option Request) (told_file told_input : Option (List ℕ)) (s : Sinks) (a : Answer) (lacks : completes a ≡ false) where
+  pub served-early : (file input : List ℕ) → IsTold told_file file → IsTold told_input input → ((entries : List Entry) → Serves (plan r file input) entries s s a) → IsServedWith r told_file told_input s s (plainly a)
+  served-early file input f i serves =
+      let history = history_of r file input in
+      record {
+        entries = history.0;
+        served = record { file = file; input = input; file_told = f; input_told = i; history = history.1; serves = serves history.0 };
+        handed = handed-nothing r a history.0 lacks;
+      }
+
+  -- whatever was read
+  pub served-anyhow : ((p : Plan) (entries : List Entry) → Serves p entries s s a) → IsServedWith r told_file told_input s s (plainly a)
+  served-anyhow serves =
+      served-early (told_bytes told_file) (told_bytes told_input) (told_are told_file) (told_are told_input)
+      (λ entries. serves (plan r (told_bytes told_file) (told_bytes told_input)) entries)
+
 -- the words ask for nothing
-pub served-usage : (told_file told_input : Option (List ℕ)) (s : Sinks) → IsServed None told_file told_input s s Usage
-served-usage told_file told_input s = record {
-  file = told_bytes told_file;
-  input = told_bytes told_input;
-  file_told = told_are told_file;
-  input_told = told_are told_input;
-  serves = (refl, refl);
-}
+pub served-usage : (told_file told_input : Option (List ℕ)) (s : Sinks) → IsServedWith None told_file told_input s s (plainly Usage)
+served-usage told_file told_input s =
+    served-early None told_file told_input s Usage refl (told_bytes told_file) (told_bytes told_input) (told_are told_file) (told_are told_input) (λ entries. (refl, refl))
 
 -- there was no memory before anything was written
-pub served-no_memory : (r : Option Request) (told_file told_input : Option (List ℕ)) (s : Sinks) → IsServed r told_file told_input s s NoMemory
-served-no_memory r told_file told_input s = record {
-  file = told_bytes told_file;
-  input = told_bytes told_input;
-  file_told = told_are told_file;
-  input_told = told_are told_input;
-  serves = StaysWithin-refl (plan r (told_bytes told_file) (told_bytes told_input)) s;
+pub served-no_memory : (r : Option Request) (told_file told_input : Option (List ℕ)) (s : Sinks) → IsServedWith r told_file told_input s s (plainly NoMemory)
+served-no_memory r told_file told_input s = served-anyhow r told_file told_input s NoMemory refl (λ p entries. StaysWithin-refl p entries s)
+
+served-read_fault : (r : Option Request) (told_file told_input : Option (List ℕ)) (s : Sinks) → IsServedWith r told_file told_input s s (plainly ReadFault)
+served-read_fault r told_file told_input s = served-anyhow r told_file told_input s ReadFault refl (λ p entries. refl)
+
+-- ---- the image and the input
+
+pub no_bench : (task : Task) → ((number : ℕ) → task ≡ Bench number → ⊥) → is_bench task ≡ false
+no_bench Alone h = refl
+no_bench Run h = refl
+no_bench Trial h = refl
+no_bench (Bench number) h = absurd (h number refl)
+
+-- a task that is no bench reads the image file
+reads_image_by : (task : Task) (r : Request) (file input : List ℕ) → is_bench task ≡ false → plan_of task r file input ≡ with_image r input (image_in file)
+reads_image_by Alone r file input h = refl
+reads_image_by Run r file input h = refl
+reads_image_by Trial r file input h = refl
+reads_image_by (Bench number) r file input h = absurd (cc)
+
+reads_image : (r : Request) (file input : List ℕ) (found : Result Image Refusal) → is_bench r.task ≡ false → image_in file ≡ found → plan (Some r) file input ≡ with_image r input found
+reads_image r file input found h e = reads_image_by r.task r file input h ∙ ap (with_image r input) e
+
+module _ (r : Request) (told_file told_input : Option (List ℕ)) (reads : is_bench r.task ≡ false) where
+  -- the image was refused
+  pub served-image : (s : Sinks) (a : Answer) → ReadsImage told_file (Err a) → IsServedWith (Some r) told_file told_input s s (plainly a)
+  served-image s ReadFault h = served-read_fault (Some r) told_file told_input s
+  served-image s NoMemory h = served-no_memory (Some r) told_file told_input s
+  served-image s ImageTooLong h =
+      served-early (Some r) told_file told_input s ImageTooLong refl h.0 (told_bytes told_input) h.1 (told_are told_input)
+      (λ entries. (reads_image r h.0 (told_bytes told_input) (Err LongImage) reads h.2, refl))
+  served-image s (BadImage f) h =
+      let is = reads_image r h.0 (told_bytes told_input) (Err (BadFile h.1)) reads h.4 in
+      served-early (Some r) told_file told_input s (BadImage f) refl h.0 (told_bytes told_input) h.2 (told_are told_input)
+      (λ entries. subst (λ p. Serves p entries s s (BadImage f)) (sym is) (h.3, refl))
+  served-image s (Exited c) h = absurd h
+  served-image s (Trapped t pc) h = absurd h
+  served-image s Spent h = absurd h
+  served-image s Shown h = absurd h
+  served-image s Usage h = absurd h
+  served-image s InputTooLong h = absurd h
+  served-image s WriteFault h = absurd h
+
+  long_input : (i : Image) (input : List ℕ) → r.no_input ≡ false → input_limit < length input → with_input i r input ≡ Refused LongInput
+  long_input i input n h = let long : nat_lt input_limit (length input) ≡ true = lt-ltb input_limit (length input) h in rw (n, long) refl
+
+  -- the input was refused
+  pub served-input : (s : Sinks) (l : Loaded) (a : Answer) → r.no_input ≡ false → ReadsImage told_file (Ok l) → ReadsInput told_input (Err a) → IsServedWith (Some r) told_file told_input s s (plainly a)
+  served-input s l ReadFault n h k = served-read_fault (Some r) told_file told_input s
+  served-input s l NoMemory n h k = served-no_memory (Some r) told_file told_input s
+  served-input s l InputTooLong n h k =
+      served-early (Some r) told_file told_input s InputTooLong refl h.0 k.0 h.1 k.1
+      (λ entries. (reads_image r h.0 k.0 (Ok (image_of_loaded l)) reads h.2 ∙ long_input (image_of_loaded l) k.0 n k.2, refl))
+  served-input s l (Exited c) n h k = absurd k
+  served-input s l (Trapped t pc) n h k = absurd k
+  served-input s l Spent n h k = absurd k
+  served-input s l Shown n h k = absurd k
+  served-input s l Usage n h k = absurd k
+  served-input s l ImageTooLong n h k = absurd k
+  served-input s l (BadImage f) n h k = absurd k
+  served-input s l WriteFault n h k = absurd k
+
+-- a plan that was done
+pub served-plan : (r : Request) (told_file told_input : Option (List ℕ)) (old new : Sinks) (v : Served) (p : Plan) (file input : List ℕ) → IsTold told_file file → IsTold told_input input → plan (Some r) file input ≡ p
+    → IsDone r.task p old new v → IsServedWith (Some r) told_file told_input old new v
+served-plan r told_file told_input old new v p file input f i is d = record {
+  entries = d.entries;
+  served = record {
+    file = file;
+    input = input;
+    file_told = f;
+    input_told = i;
+    history = subst (λ q. HasHistoryOf q d.entries) (sym is) d.history;
+    serves = subst (λ q. Serves q d.entries old new v.answer) (sym is) d.serves;
+  };
+  handed = d.handed;
 }
 
-served-read_fault : (r : Option Request) (told_file told_input : Option (List ℕ)) (s : Sinks) → IsServed r told_file told_input s s ReadFault
-served-read_fault r told_file told_input s = record {
-  file = told_bytes told_file;
-  input = told_bytes told_input;
-  file_told = told_are told_file;
-  input_told = told_are told_input;
-  serves = refl;
-}
+module _ (r : Request) (told_file told_input : Option (List ℕ)) (old new : Sinks) (v : Served) where
+  -- the guest ran without input
+  pub served-no_input : (l : Loaded) → is_bench r.task ≡ false → r.no_input ≡ true → ReadsImage told_file (Ok l) → IsDone r.task (Runs r.task (image_of_loaded l) [] (options_of r)) old new v → IsServedWith (Some r) told_file told_input old new v
+  served-no_input l reads n h d =
+      let none : with_input (image_of_loaded l) r (told_bytes told_input) ≡ Runs r.task (image_of_loaded l) [] (options_of r) = rw n refl in
+      served-plan r told_file told_input old new v (Runs r.task (image_of_loaded l) [] (options_of r)) h.0 (told_bytes told_input) h.1 (told_are told_input)
+      (reads_image r h.0 (told_bytes told_input) (Ok (image_of_loaded l)) reads h.2 ∙ none) d
 
--- the image was refused
-pub served-image : (r : Request) (told_file told_input : Option (List ℕ)) (s : Sinks) (a : Answer) → ReadsImage told_file (Err a) → IsServed (Some r) told_file told_input s s a
-served-image r told_file told_input s ReadFault h = served-read_fault (Some r) told_file told_input s
-served-image r told_file told_input s NoMemory h = served-no_memory (Some r) told_file told_input s
-served-image r told_file told_input s ImageTooLong h = record {
-  file = h.0;
-  input = told_bytes told_input;
-  file_told = h.1;
-  input_told = told_are told_input;
-  serves = (ap (with_image r (told_bytes told_input)) h.2, refl);
-}
-served-image r told_file told_input s (BadImage f) h = record {
-  file = h.0;
-  input = told_bytes told_input;
-  file_told = h.2;
-  input_told = told_are told_input;
-  serves = subst (λ p. Serves p s s (BadImage f)) (sym (ap (with_image r (told_bytes told_input)) h.4)) (h.3, refl);
-}
-served-image r told_file told_input s (Exited c) h = absurd h
-served-image r told_file told_input s (Trapped t pc) h = absurd h
-served-image r told_file told_input s Spent h = absurd h
-served-image r told_file told_input s Shown h = absurd h
-served-image r told_file told_input s Usage h = absurd h
-served-image r told_file told_input s InputTooLong h = absurd h
-served-image r told_file told_input s WriteFault h = absurd h
+  -- the guest ran with the input that was read
+  pub served-runs : (l : Loaded) (bs : Bytes) → is_bench r.task ≡ false → r.no_input ≡ false → ReadsImage told_file (Ok l) → ReadsInput told_input (Ok bs) → IsDone r.task (Runs r.task (image_of_loaded l) bs (options_of r)) old new v
+      → IsServedWith (Some r) told_file told_input old new v
+  served-runs l bs reads n h k d =
+      let short : nat_lt input_limit (length bs) ≡ false = grind (arith, nat_tests) in
+      let all : with_input (image_of_loaded l) r bs ≡ Runs r.task (image_of_loaded l) bs (options_of r) = rw (n, short) refl in
+      served-plan r told_file told_input old new v (Runs r.task (image_of_loaded l) bs (options_of r)) h.0 bs h.1 k.1 (reads_image r h.0 bs (Ok (image_of_loaded l)) reads h.2 ∙ all) d
 
-long_input : (r : Request) (i : Image) (input : List ℕ) → r.no_input ≡ false → input_limit < length input → with_input i r input ≡ Refused LongInput
-long_input r i input n h = let long : nat_lt input_limit (length input) ≡ true = lt-ltb input_limit (length input) h in rw (n, long) refl
+  -- the bench was done
+  pub served-bench : (number : ℕ) → r.task ≡ Bench number → IsDone (Bench number) (bench_plan number (options_of r)) old new v → IsServedWith (Some r) told_file told_input old new v
+  served-bench number e d =
+      served-plan r told_file told_input old new v (bench_plan number (options_of r)) (told_bytes told_file) (told_bytes told_input) (told_are told_file) (told_are told_input)
+      (ap (λ task. plan_of task r (told_bytes told_file) (told_bytes told_input)) e)
+      (subst (λ task. IsDone task (bench_plan number (options_of r)) old new v) (sym e) d)
 
--- the input was refused
-pub served-input : (r : Request) (told_file told_input : Option (List ℕ)) (s : Sinks) (l : Loaded) (a : Answer) → r.no_input ≡ false → ReadsImage told_file (Ok l) → ReadsInput told_input (Err a) → IsServed (Some r) told_file told_input s s a
-served-input r told_file told_input s l ReadFault n h k = served-read_fault (Some r) told_file told_input s
-served-input r told_file told_input s l NoMemory n h k = served-no_memory (Some r) told_file told_input s
-served-input r told_file told_input s l InputTooLong n h k = record {
-  file = h.0;
-  input = k.0;
-  file_told = h.1;
-  input_told = k.1;
-  serves = (ap (with_image r k.0) h.2 ∙ long_input r (image_of_loaded l) k.0 n k.2, refl);
-}
-served-input r told_file told_input s l (Exited c) n h k = absurd k
-served-input r told_file told_input s l (Trapped t pc) n h k = absurd k
-served-input r told_file told_input s l Spent n h k = absurd k
-served-input r told_file told_input s l Shown n h k = absurd k
-served-input r told_file told_input s l Usage n h k = absurd k
-served-input r told_file told_input s l ImageTooLong n h k = absurd k
-served-input r told_file told_input s l (BadImage f) n h k = absurd k
-served-input r told_file told_input s l WriteFault n h k = absurd k
+-- ---- a task that was done
 
-plan_runs : (r : Request) (file input got : List ℕ) (i : Image) → image_in file ≡ Ok i → with_input i r input ≡ Runs r.task i got r.budget → plan (Some r) file input ≡ Runs r.task i got r.budget
-plan_runs r file input got i h e = ap (with_image r input) h ∙ e
+-- one without a history
+pub done-plainly : (task : Task) (p : Plan) (old new : Sinks) (a : Answer) → HasHistoryOf p [] → Serves p [] old new a → hands_out task a ≡ false → IsDone task p old new (plainly a)
+done-plainly task p old new a h v out = record { entries = []; history = h; serves = v; handed = rw out refl }
 
--- the guest ran without input
-pub served-no_input : (r : Request) (told_file told_input : Option (List ℕ)) (old new : Sinks) (l : Loaded) (a : Answer) → r.no_input ≡ true → ReadsImage told_file (Ok l) → Serves (Runs r.task (image_of_loaded l) [] r.budget) old new a → IsServed (Some r) told_file told_input old new a
-served-no_input r told_file told_input old new l a n h v = record {
-  file = h.0;
-  input = told_bytes told_input;
-  file_told = h.1;
-  input_told = told_are told_input;
-  serves = subst (λ p. Serves p old new a) (sym (plan_runs r h.0 (told_bytes told_input) [] (image_of_loaded l) h.2 (rw n refl))) v;
-}
+-- the end of a task that ends as the guest does
+pub serves-end : (task : Task) (i : Image) (input : List ℕ) (o : Options) (entries : List Entry) (old new : Sinks) (e : End) → EndsAsGuest task → GetsAll old new (task_output task i input o entries)
+    → e ≡ end_of (program_alone i input o.budget).end → Serves (Runs task i input o) entries old new (answer_of e)
+serves-end task i input o entries old new (E.Exit code) ends got is = (ends, got, is)
+serves-end task i input o entries old new (E.Trap trap pc) ends got is = (ends, got, is)
+serves-end task i input o entries old new E.Spent ends got is = (ends, got, is)
 
--- the guest ran with the input that was read
-pub served-runs : (r : Request) (told_file told_input : Option (List ℕ)) (old new : Sinks) (l : Loaded) (bs : Bytes) (a : Answer) → r.no_input ≡ false → ReadsImage told_file (Ok l) → ReadsInput told_input (Ok bs) → Serves (Runs r.task (image_of_loaded l) bs r.budget) old new a → IsServed (Some r) told_file told_input old new a
-served-runs r told_file told_input old new l bs a n h k v =
-    let short : nat_lt input_limit (length bs) ≡ false = grind (arith, nat_tests) in
-    record {
-      file = h.0;
-      input = bs;
-      file_told = h.1;
-      input_told = k.1;
-      serves = subst (λ p. Serves p old new a) (sym (plan_runs r h.0 bs bs (image_of_loaded l) h.2 (rw (n, short) refl))) v;
-    }
+-- ---- answers that come before the input's place
+
+early-input : (told : Option (List ℕ)) (a : Answer) → ReadsInput told (Err a) → IsRefusedEarly a → ⊥
+early-input told Usage h e = h
+early-input told ImageTooLong h e = h
+early-input told (BadImage f) h e = h
+early-input told (Exited c) h e = e
+early-input told (Trapped t pc) h e = e
+early-input told Spent h e = e
+early-input told Shown h e = e
+early-input told ReadFault h e = e
+early-input told InputTooLong h e = e
+early-input told WriteFault h e = e
+early-input told NoMemory h e = e
+
+-- a refused input is none of them
+pub late-input : (told : Option (List ℕ)) (a : Answer) (v : Served) → ReadsInput told (Err a) → v ≡ plainly a → IsRefusedEarly v.answer → ⊥
+late-input told a v h e early = early-input told a h (subst (λ (x : Served). IsRefusedEarly x.answer) e early)
+
+early-runs : (task : Task) (i : Image) (input : List ℕ) (o : Options) (entries : List Entry) (old new : Sinks) (a : Answer) → Serves (Runs task i input o) entries old new a → IsRefusedEarly a → ⊥
+early-runs task i input o entries old new Usage h e = (let is = h.0 in absurd (cc))
+early-runs task i input o entries old new ImageTooLong h e = (let is = h.0 in absurd (cc))
+early-runs task i input o entries old new (BadImage f) h e = h.0
+early-runs task i input o entries old new (Exited c) h e = e
+early-runs task i input o entries old new (Trapped t pc) h e = e
+early-runs task i input o entries old new Spent h e = e
+early-runs task i input o entries old new Shown h e = e
+early-runs task i input o entries old new ReadFault h e = e
+early-runs task i input o entries old new InputTooLong h e = e
+early-runs task i input o entries old new WriteFault h e = e
+early-runs task i input o entries old new NoMemory h e = e
+
+-- nor is what a guest that ran comes to
+pub late-runs : (task : Task) (i : Image) (input : List ℕ) (o : Options) (old new : Sinks) (v : Served) → IsDone task (Runs task i input o) old new v → IsRefusedEarly v.answer → ⊥
+late-runs task i input o old new v d e = early-runs task i input o d.entries old new v.answer d.serves e
+
+-- a read fault of the image is counted
+pub counted-image : (T : Type 0) (old new : ℕ) (a : Answer) (v : Served) → CountsReadFault {T = T} old new (Err a) → v ≡ plainly a → v.answer ≡ ReadFault → Rose old new
+counted-image T old new a v h e is = subst (λ x. CountsReadFault {T = T} old new (Err x)) (sym (ap (λ (x : Served). x.answer) e) ∙ is) h
 
 -- ---- an answer whose line could not be made
 
 -- what is said of a guest's end, or of a faulty image, holds of want of memory too
-no_memory_for : (p : Plan) (old new : Sinks) (a : Answer) → HasNumbers a → Serves p old new a → Serves p old new NoMemory
-no_memory_for (Runs Alone i input budget) old new (Trapped trap pc) n h = record {
-  got = output_of (program_alone i input budget);
+no_memory_for : (p : Plan) (entries : List Entry) (old new : Sinks) (a : Answer) → HasNumbers a → Serves p entries old new a → Serves p entries old new NoMemory
+no_memory_for (Runs task i input o) entries old new (Trapped trap pc) n h = record {
+  got = task_output task i input o entries;
   rest = [];
-  parts = append-nil (output_of (program_alone i input budget));
-  gets = h.0.gets;
-  calm = h.0.calm;
+  parts = append-nil (task_output task i input o entries);
+  gets = h.1.gets;
+  calm = h.1.calm;
 }
-no_memory_for (Runs Trial i input budget) old new (Trapped trap pc) n h = absurd h
-no_memory_for (Refused r) old new (Trapped trap pc) n h = absurd h
-no_memory_for p old new (BadImage f) n h = subst (λ z. StaysWithin p old z) (sym h.1) (StaysWithin-refl p old)
-no_memory_for p old new (Exited c) n h = absurd n
-no_memory_for p old new Spent n h = absurd n
-no_memory_for p old new Shown n h = absurd n
-no_memory_for p old new Usage n h = absurd n
-no_memory_for p old new ReadFault n h = absurd n
-no_memory_for p old new ImageTooLong n h = absurd n
-no_memory_for p old new InputTooLong n h = absurd n
-no_memory_for p old new WriteFault n h = absurd n
-no_memory_for p old new NoMemory n h = absurd n
+no_memory_for (Refused r) entries old new (Trapped trap pc) n h = absurd h
+no_memory_for p entries old new (BadImage f) n h = subst (λ z. StaysWithin p entries old z) (sym h.1) (StaysWithin-refl p entries old)
+no_memory_for p entries old new (Exited c) n h = absurd n
+no_memory_for p entries old new Spent n h = absurd n
+no_memory_for p entries old new Shown n h = absurd n
+no_memory_for p entries old new Usage n h = absurd n
+no_memory_for p entries old new ReadFault n h = absurd n
+no_memory_for p entries old new ImageTooLong n h = absurd n
+no_memory_for p entries old new InputTooLong n h = absurd n
+no_memory_for p entries old new WriteFault n h = absurd n
+no_memory_for p entries old new NoMemory n h = absurd n
 
-pub served-said : (r : Option Request) (told_file told_input : Option (List ℕ)) (old new : Sinks) (a said : Answer) → IsSaidFor a said → IsServed r told_file told_input old new a → IsServed r told_file told_input old new said
-served-said r told_file told_input old new a said (inl e) h = subst (λ x. IsServed r told_file told_input old new x) (sym e) h
-served-said r told_file told_input old new a said (inr e) h = record {
+served-said : (r : Option Request) (told_file told_input : Option (List ℕ)) (old new : Sinks) (entries : List Entry) (a said : Answer) → IsSaidFor a said → IsServed r told_file told_input old new entries a → IsServed r told_file told_input old new entries said
+served-said r told_file told_input old new entries a said (inl e) h = subst (λ x. IsServed r told_file told_input old new entries x) (sym e) h
+served-said r told_file told_input old new entries a said (inr e) h = record {
   file = h.file;
   input = h.input;
   file_told = h.file_told;
   input_told = h.input_told;
-  serves = subst (λ x. Serves (plan r h.file h.input) old new x) (sym e.0) (no_memory_for (plan r h.file h.input) old new a e.1 h.serves);
+  history = h.history;
+  serves = subst (λ x. Serves (plan r h.file h.input) entries old new x) (sym e.0) (no_memory_for (plan r h.file h.input) entries old new a e.1 h.serves);
 }
 
--- the answer of a call, once its line was told
-pub answered : (r : Option Request) (told_file told_input : Option (List ℕ)) (old mid : Sinks) (notes : Option (List ℕ)) (faults : ℕ) (a result : Answer) → IsServed r told_file told_input old mid a → Concludes mid.notes notes mid.notes_faults faults a result → IsAnswered r told_file told_input old (record mid { notes = notes; notes_faults = faults }) result
-answered r told_file told_input old mid notes faults a result h c = record {
+-- the answer of a call, once its line was told and its history handed out
+pub answered : (r : Option Request) (told_file told_input : Option (List ℕ)) (old mid : Sinks) (notes : Option (List ℕ)) (faults : ℕ) (histories histories' : List (List Entry)) (v : Served) (result : Answer)
+    → IsServedWith r told_file told_input old mid v → Concludes mid.notes notes mid.notes_faults faults v.answer result → histories' ≡ with_history histories v.history result
+    → IsAnswered r told_file told_input old (record mid { notes = notes; notes_faults = faults }) histories histories' result
+answered r told_file told_input old mid notes faults histories histories' v result h c grown = record {
   said = c.said;
   between = mid;
-  served = served-said r told_file told_input old mid a c.said c.for_answer h;
+  entries = h.entries;
+  served = served-said r told_file told_input old mid h.entries v.answer c.said c.for_answer h.served;
   out = refl;
   out_faults = refl;
   tells = c.tells;
+  told = grown ∙ added r histories h.entries v.history mid.notes notes mid.notes_faults faults v.answer result h.handed c;
 }

@@ -1,23 +1,30 @@
 -- The report of a trial is the program's, and on `out` it is what the task writes
-use Rattle.std.proofs.Common.{◌≡◌, ℕ, List, [], ◌∷◌, ◌++◌, ◌<◌, length, drop, get_or, map, Option, Err, inl, inr, arith, refl, sym, ap, ◌∙◌, subst}
+use Rattle.std.proofs.Common.{◌≡◌, ℕ, List, [], ◌∷◌, ◌++◌, ◌<◌, ◌≤◌, length, drop, get_or, map, Option, Err, inl, inr, arith, refl, sym, ap, ◌∙◌, subst, append-nil}
+use Rattle.std.specs.Prelude.{All}
 use Rattle.std.specs.Io.KnownBytes.{Appends}
 use Rattle.speculation.specs.Run.{Mark, marked, stream_bytes}
-use Rattle.speculation.specs.Ledger.{ledger}
+use Rattle.speculation.specs.Record.{output_of}
+use Rattle.speculation.specs.Ledger.{ledger, originals}
+use Rattle.speculation_law.specs.Totals.{Totalled}
+use Rattle.speculation_law.proofs.Totals.{totalled}
 use Rattle.host_io.specs.Faults.{Rose}
 use Rattle.elf32_loader.specs.LoadedImage.{image_of_loaded}
 use Rattle.elf32_loader.specs.declared.loaded.Loaded.{Loaded}
-use Rattle.guest_model.specs.Image.{program_alone, start_of}
+use Rattle.guest_model.specs.Image.{Image, program_alone, start_of}
 use Rattle.guest_model.specs.Rv32.{rv32}
 use Rattle.guest_model.specs.declared.end.End.{End}
 use Rattle.guest_model.specs.declared.end.End.TheVariants.{Exit, Trap, Spent}
-use Rattle.region_ledger.specs.Ledger.{core_verdict, ledger_row, ledger_rows, core_end}
+use Rattle.region_ledger.specs.Ledger.{core_verdict, ledger_row, ledger_rows, core_end, totals_of, SavesAtMostAll}
+use Rattle.region_ledger.specs.declared.finished.Finished.{Finished}
 use Rattle.region_ledger.specs.declared.row.Row.{Row}
 use Rattle.region_ledger.specs.declared.verdict.Verdict.{Verdict}
 use Rattle.region_ledger.specs.declared.verdict.Verdict.TheVariants.{Kept, Differs, Stopped, Late}
 use Rattle.region_trial.specs.Trials.{IsTrialOf}
 use Rattle.region_trial.specs.declared.trial.Trial.{Trial}
+use Rattle.region_trial.proofs.OnTrials.{saves-rows}
+use Rattle.report_text.specs.Reports.{bench_lines}
 use Rattle.guest_streams.specs.GuestStreams.{end_of, Sinks, GetsAll, GetsPart, IsNext, FailsAt, StopsShort}
-use Rattle.fasttrack_program.specs.Reports.{report, told_verdict, told_row, program_report}
+use Rattle.fasttrack_program.specs.Reports.{report, told_verdict, told_row, told_ledger, program_report, bench_report}
 use Rattle.fasttrack_program.specs.TextOnSink.{StoppedInText, WritesText}
 use Rattle.guest_streams.specs.declared.fault.OutputFault.{OutputFault}
 use Rattle.guest_streams.specs.declared.fault.OutputFault.TheVariants.{Write, NoMemory}
@@ -44,16 +51,49 @@ end_of-back (Exit code) = refl
 end_of-back (Trap trap pc) = refl
 end_of-back Spent = refl
 
+-- The rows are the ledger of the program, and end and count are those of the program alone.
+pub record TellsProgram (i : Image) (input : List ℕ) (budget : ℕ) (rows : List Row) (f : Finished) : Type 0 where
+  pub are_ledger : ledger_rows rows ≡ ledger (rv32 input) (start_of i) budget
+  pub count : f.count ≡ (program_alone i input budget).count
+  pub end : f.end ≡ end_of (program_alone i input budget).end
+
+module _ (i : Image) (input : List ℕ) (budget : ℕ) (rows : List Row) (f : Finished) (h : TellsProgram i input budget rows f) where
+  rows-told : rows ≡ told_ledger i input budget
+  rows-told = sym (told_rows-back rows) ∙ ap (map told_row) h.are_ledger
+
+  pub report-is : report rows f.count f.end ≡ program_report i input budget
+  unfolding program_report
+  report-is =
+      ap (λ xs. report xs f.count f.end) rows-told
+      ∙ ap (λ n. report (told_ledger i input budget) n f.end) h.count
+      ∙ ap (λ e. report (told_ledger i input budget) (program_alone i input budget).count e) h.end
+
+  pub summary-is : (number output : ℕ) → output ≡ length (output_of (program_alone i input budget)) → bench_lines number (totals_of rows f.count) output f.end ≡ bench_report number i input budget
+  unfolding bench_report
+  summary-is number output total =
+      ap (λ xs. bench_lines number (totals_of xs f.count) output f.end) rows-told
+      ∙ ap (λ n. bench_lines number (totals_of (told_ledger i input budget) n) output f.end) h.count
+      ∙ ap (λ n. bench_lines number (totals_of (told_ledger i input budget) (program_alone i input budget).count) n f.end) total
+      ∙ ap (λ e. bench_lines number (totals_of (told_ledger i input budget) (program_alone i input budget).count) (length (output_of (program_alone i input budget))) e) h.end
+
+  totals-add : Totalled (program_alone i input budget).count (ledger_rows rows)
+  totals-add = totalled (rv32 input) (start_of i) budget (ledger_rows rows) ([], append-nil (ledger_rows rows) ∙ h.are_ledger)
+
+  pub rows-inside : originals (ledger_rows rows) ≤ f.count
+  rows-inside = (let all = totals-add in omega (arith, all.regions, h.count))
+
+  pub rows-save : All SavesAtMostAll rows
+  rows-save = saves-rows rows totals-add.within
+
 -- the report of a trial's rows and end
 pub trial_report : (l : Loaded) (input : List ℕ) (budget : ℕ) (t : Trial) → IsTrialOf l input budget t → report t.rows t.finished.count t.finished.end ≡ program_report (image_of_loaded l) input budget
-unfolding program_report
 trial_report l input budget t h =
-    let rows : t.rows ≡ map told_row (ledger (rv32 input) (start_of (image_of_loaded l)) budget) = sym (told_rows-back t.rows) ∙ ap (map told_row) h.rows in
-    let count : t.finished.count ≡ (program_alone (image_of_loaded l) input budget).count = ap (λ f. f.count) h.finished in
-    let end : t.finished.end ≡ end_of (program_alone (image_of_loaded l) input budget).end = sym (end_of-back t.finished.end) ∙ ap (λ f. end_of f.end) h.finished in
-    ap (λ xs. report xs t.finished.count t.finished.end) rows
-    ∙ ap (λ n. report (map told_row (ledger (rv32 input) (start_of (image_of_loaded l)) budget)) n t.finished.end) count
-    ∙ ap (λ e. report (map told_row (ledger (rv32 input) (start_of (image_of_loaded l)) budget)) (program_alone (image_of_loaded l) input budget).count e) end
+    report-is (image_of_loaded l) input budget t.rows t.finished
+    (record {
+      are_ledger = h.rows;
+      count = ap (λ f. f.count) h.finished;
+      end = sym (end_of-back t.finished.end) ∙ ap (λ f. end_of f.end) h.finished;
+    })
 
 -- ---- a text on `out`
 

@@ -3,6 +3,8 @@ pub mod FaultTexts
 pub mod Plan
 pub mod Reading
 pub mod Reports
+pub mod Serving
 pub mod Status
 pub mod TextOnSink
 pub mod TopCall
+pub mod Tracks

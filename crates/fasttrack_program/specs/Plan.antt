@@ -1,11 +1,12 @@
 -- What a call of the program is to do, from its words, its image file and its input
-use Rattle.std.specs.Prelude.{ℕ, Bool, nat_lt, if◌then◌else◌, List, [], length, Option, Some, None, Result, Ok, Err}
+use Rattle.std.specs.Prelude.{ℕ, nat_lt, if◌then◌else◌, List, [], length, Option, Some, None, Result, Ok, Err}
 use Rattle.guest_model.specs.Image.{Image, image}
 use Rattle.guest_model.specs.ImageFault.{Fault}
 use Rattle.program_words.specs.CommandLine.{Request}
 use Rattle.program_words.specs.declared.request.Task.{Task}
 use Rattle.program_words.specs.declared.request.Task.TheVariants.{Alone, Run, Trial, Bench}
 use Rattle.rv32_asm.specs.Generated.{generated}
+use Rattle.fasttrack_program.specs.declared.options.Options.{Options}
 
 -- why a call is refused before the guest runs
 pub data Refusal : Type 0 where
@@ -13,14 +14,6 @@ pub data Refusal : Type 0 where
   LongImage : Refusal
   BadFile : Fault → Refusal
   LongInput : Refusal
-
--- how a task is done: how many regions may be open at once, how many instructions the guest may run, and which texts stand
--- behind its output
-pub record Options : Type 0 where
-  pub tracks : ℕ
-  pub budget : ℕ
-  pub report : Bool
-  pub journal : Bool
 
 -- the call is refused, or the task is done on the guest of this image with this input and these options
 pub data Plan : Type 0 where
@@ -63,13 +56,16 @@ abbrev pub bench_image : ℕ → Result Image Refusal
 bench_image number = refused_file (image (generated number bench_regions))
 
 -- a bench has no input
-abbrev pub with_bench : Request → Result Image Refusal → Plan
-with_bench r (Err f) = Refused f
-with_bench r (Ok i) = Runs r.task i [] (options_of r)
+abbrev pub with_bench : ℕ → Options → Result Image Refusal → Plan
+with_bench number o (Err f) = Refused f
+with_bench number o (Ok i) = Runs (Bench number) i [] o
+
+abbrev pub bench_plan : ℕ → Options → Plan
+bench_plan number o = with_bench number o (bench_image number)
 
 -- by the task: a bench reads neither file nor input
 abbrev pub plan_of : Task → Request → List ℕ → List ℕ → Plan
-plan_of (Bench number) r file input = with_bench r (bench_image number)
+plan_of (Bench number) r file input = bench_plan number (options_of r)
 plan_of Alone r file input = with_image r input (image_in file)
 plan_of Run r file input = with_image r input (image_in file)
 plan_of Trial r file input = with_image r input (image_in file)

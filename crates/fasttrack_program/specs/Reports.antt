@@ -1,5 +1,5 @@
 -- The report of a program: the rows of its ledger, their totals, and its end; its journal; and the summary of a bench
-use Rattle.std.specs.Prelude.{ℕ, List, [], ◌∷◌, ◌++◌, length, map}
+use Rattle.std.specs.Prelude.{ℕ, if◌then◌else◌, List, [], ◌∷◌, ◌++◌, length, map}
 use Rattle.speculation.specs.declared.history.Entry.{Entry}
 use Rattle.speculation.specs.Record.{output_of}
 use Rattle.speculation.specs.Ledger.{Row as LedgerRow, ledger}
@@ -9,12 +9,14 @@ use Rattle.guest_model.specs.Rv32.{rv32}
 use Rattle.guest_model.specs.declared.difference.Difference.{Difference}
 use Rattle.guest_model.specs.declared.end.End.{End}
 use Rattle.region_ledger.specs.Ledger.{totals_of}
+use Rattle.region_ledger.specs.declared.finished.Finished.{Finished}
 use Rattle.region_ledger.specs.declared.row.Row.{Row}
 use Rattle.region_ledger.specs.declared.verdict.Verdict.{Verdict}
 use Rattle.region_ledger.specs.declared.verdict.Verdict.TheVariants.{Kept, Differs, Stopped, Late}
 use Rattle.board_events.specs.Texts.{text_of}
 use Rattle.report_text.specs.Reports.{row_line, totals_line, end_line, bench_lines}
 use Rattle.guest_streams.specs.GuestStreams.{end_of}
+use Rattle.fasttrack_program.specs.declared.options.Options.{Options}
 
 -- ---- the text
 
@@ -59,3 +61,15 @@ bench_report number i input budget =
 abbrev pub journal_text : List Entry → List ℕ
 journal_text [] = []
 journal_text (x ∷ xs) = text_of x ++ (10 ∷ journal_text xs)
+
+-- ---- the texts that are asked for behind the guest's output, of these rows, this end and these entries
+
+abbrev pub asked_report : Options → List Row → Finished → List ℕ
+asked_report o rows f = if o.report then report rows f.count f.end else []
+
+abbrev pub asked_journal : Options → List Entry → List ℕ
+asked_journal o entries = if o.journal then journal_text entries else []
+
+-- the report, then the journal
+abbrev pub asked_texts : Options → List Row → Finished → List Entry → List ℕ
+asked_texts o rows f entries = asked_report o rows f ++ asked_journal o entries

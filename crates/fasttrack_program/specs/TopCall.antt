@@ -16,9 +16,10 @@ use Rattle.program_words.specs.CommandLine.{Request}
 use Rattle.program_words.specs.declared.request.Task.{Task}
 use Rattle.program_words.specs.declared.request.Task.TheVariants.{Alone, Run, Trial, Bench}
 use Rattle.fasttrack_program.specs.Reports.{program_report, bench_report, journal_text}
-use Rattle.fasttrack_program.specs.Plan.{Options, Plan, Refused, Runs, BadWords, LongImage, BadFile, LongInput, plan}
+use Rattle.fasttrack_program.specs.Plan.{Plan, Refused, Runs, BadWords, LongImage, BadFile, LongInput, plan}
 use Rattle.fasttrack_program.specs.Reading.{IsTold}
 use Rattle.fasttrack_program.specs.AnswerLine.{line_of, Tells}
+use Rattle.fasttrack_program.specs.declared.options.Options.{Options}
 use Rattle.fasttrack_program.specs.declared.answer.Answer.{Answer}
 use Rattle.fasttrack_program.specs.declared.answer.Answer.TheVariants.{Exited, Trapped, Spent, Shown, Usage, ReadFault, ImageTooLong, BadImage, InputTooLong, WriteFault, NoMemory}
 
@@ -150,6 +151,13 @@ has_tracks Alone = false
 has_tracks Run = true
 has_tracks Trial = false
 has_tracks (Bench number) = true
+
+-- the words name a bench, which reads neither file nor input
+abbrev pub is_bench : Task → Bool
+is_bench Alone = false
+is_bench Run = false
+is_bench Trial = false
+is_bench (Bench number) = true
 
 -- the words ask for workers
 abbrev pub needs_workers : Option Request → Bool

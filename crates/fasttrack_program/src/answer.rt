@@ -1,10 +1,11 @@
 //! What the program answers, and its exit status.
 
 ghost use Rattle.std.specs.Prelude.{◌≡◌};
+ghost use Rattle.fasttrack_program.specs.Serving.{answer_of};
 ghost use Rattle.fasttrack_program.specs.Status.{status_of};
 
 use elf32_loader::ImageFault;
-use guest_model::Trap;
+use guest_model::{End, Trap};
 
 /// How a call of the program ended.
 #[derive(Debug, Clone, Copy, PartialEq, Eq)]
@@ -15,7 +16,7 @@ pub enum Answer {
     Trapped(Trap, u32),
     /// The budget of instructions was spent before the guest ended.
     Spent,
-    /// The report was written whole.
+    /// The report or the summary was written whole.
     Shown,
     /// The words are no call of the program.
     Usage,
@@ -49,5 +50,16 @@ pub fn status(answer: &Answer) -> u8
         Answer::InputTooLong => 246,
         Answer::WriteFault => 247,
         Answer::NoMemory => 248,
+    }
+}
+
+/// The answer of a task that ends as the guest does.
+pub fn answer_of(end: End) -> Answer
+    ensures { result ≡ answer_of end }
+{
+    match end {
+        End::Exit(code) => Answer::Exited(code),
+        End::Trap(trap, pc) => Answer::Trapped(trap, pc),
+        End::Spent => Answer::Spent,
     }
 }

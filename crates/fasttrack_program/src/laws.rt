@@ -6,6 +6,8 @@ ghost use Rattle.guest_model.specs.Image.{Image};
 ghost use Rattle.program_words.specs.declared.request.Task.TheVariants.{Trial};
 ghost use Rattle.guest_streams.specs.GuestStreams.{Sinks};
 ghost use Rattle.fasttrack_program.specs.Plan.{Runs};
+ghost use Rattle.speculation.specs.declared.history.Entry.{Entry};
+ghost use Rattle.fasttrack_program.specs.declared.options.Options.{Options};
 ghost use Rattle.fasttrack_program.specs.Reports.{program_report};
 ghost use Rattle.fasttrack_program.specs.TextOnSink.{StoppedInText};
 ghost use Rattle.fasttrack_program.specs.TopCall.{FailsIn};
@@ -13,6 +15,6 @@ ghost use Rattle.fasttrack_program.specs.TopCall.{FailsIn};
 /// Where `trial` can't write its report, the count of `out` rose, and `out` got a beginning of the report that is
 /// shorter.
 pub fn reports_fail_on_out()
-    ensures { (image : Image) (input : List ℕ) (budget : ℕ) (old new : Sinks) → FailsIn (Runs Trial image input budget) old new
-        → StoppedInText old.out new.out (program_report image input budget) × Rose old.out_faults new.out_faults }
+    ensures { (image : Image) (input : List ℕ) (options : Options) (entries : List Entry) (old new : Sinks) → FailsIn (Runs Trial image input options) entries old new
+        → StoppedInText old.out new.out (program_report image input options.budget) × Rose old.out_faults new.out_faults }
 {}

@@ -4,13 +4,21 @@
 mod alone;
 mod answer;
 mod answer_line;
+mod boards;
 mod fault_text;
+mod histories;
+mod journal;
 pub mod laws;
+mod options;
 mod read;
 mod report;
 mod serve;
+mod served;
+mod show_bench;
+mod show_run;
 mod show_trial;
 mod top;
 
 pub use answer::{Answer, status};
+pub use histories::Histories;
 pub use top::plain_main;

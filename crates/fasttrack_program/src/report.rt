@@ -74,8 +74,8 @@ fn write_end<O: Sink>(alloc: Global, end: &End, out: &mut O) -> Result<(), Outpu
     }
 }
 
-/// Writes a line whole.
-fn write_line<O: Sink>(line: &str, out: &mut O) -> Result<(), OutputFault>
+/// Writes a text whole.
+pub fn write_line<O: Sink>(line: &str, out: &mut O) -> Result<(), OutputFault>
     ensures { WritesText (O.contents out.old) (O.contents out.new) (O.faults out.old) (O.faults out.new) line.now result }
 {
     match write_whole(out, line.as_bytes()) {

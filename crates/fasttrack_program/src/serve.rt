@@ -1,56 +1,39 @@
 //! One call of the program up to its answer's line.
 
-ghost use Rattle.std.specs.Prelude.{◌≡◌, ◌≤◌, ◌^◌, ◌⊎◌, Some, true, false};
+ghost use Rattle.std.specs.Prelude.{◌≡◌, ◌⊎◌, [], Some, true, false};
 ghost use Rattle.host_io.specs.Faults.{Rose};
 ghost use Rattle.elf32_loader.specs.LoadedImage.{image_of_loaded};
 ghost use Rattle.program_words.specs.declared.request.Task.TheVariants.{Alone};
-ghost use Rattle.fasttrack_program.specs.Plan.{Runs};
-ghost use Rattle.fasttrack_program.specs.TopCall.{Serves, IsServed, IsRefusedEarly};
+ghost use Rattle.track_board.specs.Value.{IsSettings};
+ghost use Rattle.fasttrack_program.specs.Plan.{Runs, options_of};
+ghost use Rattle.fasttrack_program.specs.Serving.{IsDone, IsServedWith, asked};
+ghost use Rattle.fasttrack_program.specs.TopCall.{IsRefusedEarly, Serves, is_bench, settings_of};
 
 use crate::alone::run_alone;
-use crate::answer::Answer;
+use crate::answer::{Answer, answer_of};
+use crate::options::{Options, options_in};
 use crate::read::{read_image, read_input};
+use crate::served::{Served, plain};
+use crate::show_bench::show_bench;
+use crate::show_run::show_run;
 use crate::show_trial::show_trial;
 use elf32_loader::Loaded;
-use guest_model::{Bytes, End, FlatMemory, Regs, State};
+use guest_model::{Bytes, FlatMemory, Regs, State};
 use guest_streams::OutputFault;
 use host_io::{Files, Sink, Source};
 use program_words::{Request, Task};
 use std::alloc::Global;
-
-/// Does a task on the guest of an image, for at most `budget` instructions.
-fn do_task<O: Sink, N: Sink>(
-    alloc: Global,
-    task: Task,
-    loaded: &Loaded,
-    input: &[u8],
-    budget: u64,
-    out: &mut O,
-    notes: &mut N,
-) -> Answer
-    requires within { budget ≤ 2 ^ 40 }
-    ensures serves { Serves (Runs task (image_of_loaded loaded.now) input.now budget)
-        (record { out = O.contents out.old; out_faults = O.faults out.old; notes = N.contents notes.old; notes_faults = N.faults notes.old })
-        (record { out = O.contents out.new; out_faults = O.faults out.new; notes = N.contents notes.new; notes_faults = N.faults notes.new })
-        result }
-    ensures reads_nothing { result ≡ Answer.ReadFault → ⊥ }
-{
-    match task {
-        Task::Alone => run_image(alloc, loaded, input, budget, out, notes),
-        Task::Trial => show_trial(alloc, loaded, input, budget, out),
-    }
-}
 
 /// Runs the guest of an image alone.
 fn run_image<O: Sink, N: Sink>(
     alloc: Global,
     loaded: &Loaded,
     input: &[u8],
-    budget: u64,
+    options: &Options,
     out: &mut O,
     notes: &mut N,
 ) -> Answer
-    ensures serves { Serves (Runs Alone (image_of_loaded loaded.now) input.now budget)
+    ensures serves { Serves (Runs Alone (image_of_loaded loaded.now) input.now options.now) []
         (record { out = O.contents out.old; out_faults = O.faults out.old; notes = N.contents notes.old; notes_faults = N.faults notes.old })
         (record { out = O.contents out.new; out_faults = O.faults out.new; notes = N.contents notes.new; notes_faults = N.faults notes.new })
         result }
@@ -65,16 +48,54 @@ fn run_image<O: Sink, N: Sink>(
         place: 0,
         heap: loaded.heap,
     };
-    match run_alone(alloc, &mut state, input, budget, out, notes) {
-        Ok(End::Exit(code)) => Answer::Exited(code),
-        Ok(End::Trap(trap, pc)) => Answer::Trapped(trap, pc),
-        Ok(End::Spent) => Answer::Spent,
+    match run_alone(alloc, &mut state, input, options.budget, out, notes) {
+        Ok(end) => answer_of(end),
         Err(OutputFault::Write) => Answer::WriteFault,
         Err(OutputFault::NoMemory) => Answer::NoMemory,
     }
 }
 
-/// Reads the image and, unless the input is to be left unread, the input, and does the task of the request.
+/// Does a task on the guest of an image.
+fn do_task<O: Sink, N: Sink>(
+    alloc: Global,
+    task: Task,
+    loaded: &Loaded,
+    input: Bytes,
+    options: &Options,
+    out: &mut O,
+    notes: &mut N,
+) -> Served
+    requires settings { IsSettings (settings_of options.now) }
+    requires image { is_bench task ≡ false }
+    ensures done { IsDone task (Runs task (image_of_loaded loaded.now) input options.now)
+        (record { out = O.contents out.old; out_faults = O.faults out.old; notes = N.contents notes.old; notes_faults = N.faults notes.old })
+        (record { out = O.contents out.new; out_faults = O.faults out.new; notes = N.contents notes.new; notes_faults = N.faults notes.new })
+        result }
+    ensures reads_nothing { result.answer ≡ Answer.ReadFault → ⊥ }
+{
+    match task {
+        Task::Alone => plain(run_image(
+            alloc,
+            loaded,
+            input.as_slice(),
+            options,
+            out,
+            notes,
+        )),
+        Task::Run => show_run(alloc, loaded, input, options, out, notes),
+        Task::Trial => plain(show_trial(
+            alloc,
+            loaded,
+            input.as_slice(),
+            options.budget,
+            out,
+        )),
+        Task::Bench(_) => unreachable!(),
+    }
+}
+
+/// Reads the image and, unless the input is to be left unread, the input, and does the task of the request. A bench
+/// reads neither.
 pub fn serve_request<F: Files, I: Source, O: Sink, N: Sink>(
     alloc: Global,
     request: &Request<'_>,
@@ -82,33 +103,40 @@ pub fn serve_request<F: Files, I: Source, O: Sink, N: Sink>(
     input: &mut I,
     out: &mut O,
     notes: &mut N,
-) -> Answer
-    requires within { request.now.budget ≤ 2 ^ 40 }
-    ensures served { IsServed (Some (record { task = request.now.task; image = request.now.image.now; budget = request.now.budget; no_input = request.now.no_input }))
+) -> Served
+    requires { IsSettings (settings_of (options_of (asked request.now))) }
+    ensures served { IsServedWith (Some (asked request.now))
         (F.contents files.old request.now.image.now) (I.remaining input.old)
         (record { out = O.contents out.old; out_faults = O.faults out.old; notes = N.contents notes.old; notes_faults = N.faults notes.old })
         (record { out = O.contents out.new; out_faults = O.faults out.new; notes = N.contents notes.new; notes_faults = N.faults notes.new })
         result }
-    ensures read_fault { result ≡ Answer.ReadFault → Rose (F.faults files.old) (F.faults files.new) ⊎ ((request.now.no_input ≡ false) × Rose (I.faults input.old) (I.faults input.new)) }
+    ensures read_fault { result.answer ≡ Answer.ReadFault → Rose (F.faults files.old) (F.faults files.new) ⊎ ((request.now.no_input ≡ false) × Rose (I.faults input.old) (I.faults input.new)) }
     ensures unread { request.now.no_input ≡ true → input.new ≡ input.old }
-    ensures early { IsRefusedEarly result → input.new ≡ input.old }
+    ensures early { IsRefusedEarly result.answer → input.new ≡ input.old }
+    ensures bench { is_bench request.now.task ≡ true → (files.new ≡ files.old) × (input.new ≡ input.old) }
     ensures held { F.contents files.new ≡ F.contents files.old }
 {
-    let Request {
-        task,
-        image,
-        budget,
-        no_input,
-    } = *request;
-    let loaded = match read_image(alloc, files, image) {
+    let options = options_in(request);
+    if let Task::Bench(number) = request.task {
+        return show_bench(alloc, number, &options, out);
+    }
+    let loaded = match read_image(alloc, files, request.image) {
         Ok(loaded) => loaded,
-        Err(answer) => return answer,
+        Err(answer) => return plain(answer),
     };
-    if no_input {
-        return do_task(alloc, task, &loaded, &[], budget, out, notes);
+    if request.no_input {
+        return do_task(
+            alloc,
+            request.task,
+            &loaded,
+            Bytes::new(alloc),
+            &options,
+            out,
+            notes,
+        );
     }
     match read_input(alloc, input) {
-        Ok(bytes) => do_task(alloc, task, &loaded, bytes.as_slice(), budget, out, notes),
-        Err(answer) => answer,
+        Ok(bytes) => do_task(alloc, request.task, &loaded, bytes, &options, out, notes),
+        Err(answer) => plain(answer),
     }
 }

@@ -1,15 +1,16 @@
 //! The task `trial`: the report of an image's regions.
 
-ghost use Rattle.std.specs.Prelude.{◌≡◌, ℕ, ◌≤◌, ◌^◌, List, Option};
+ghost use Rattle.std.specs.Prelude.{◌≡◌, ℕ, ◌≤◌, ◌^◌, List, [], Option};
 ghost use Rattle.elf32_loader.specs.LoadedImage.{image_of_loaded};
 ghost use Rattle.program_words.specs.declared.request.Task.TheVariants.{Trial};
 ghost use Rattle.fasttrack_program.specs.Plan.{Runs};
 ghost use Rattle.fasttrack_program.specs.TopCall.{Serves};
+ghost use Rattle.fasttrack_program.specs.declared.options.Options.{Options};
 
-use guest_streams::OutputFault;
 use crate::answer::Answer;
 use crate::report::write_report;
 use elf32_loader::Loaded;
+use guest_streams::OutputFault;
 use host_io::Sink;
 use region_trial::run_trial;
 use std::alloc::Global;
@@ -26,7 +27,7 @@ pub fn show_trial<O: Sink>(
     requires within { budget ≤ 2 ^ 40 }
 
     // Whatever notes hold, they are left alone.
-    ensures serves { (notes : Option (List ℕ)) → (faults : ℕ) → Serves (Runs Trial (image_of_loaded loaded.now) input.now budget)
+    ensures serves { (options : Options) → options.budget ≡ budget → (notes : Option (List ℕ)) → (faults : ℕ) → Serves (Runs Trial (image_of_loaded loaded.now) input.now options) []
         (record { out = O.contents out.old; out_faults = O.faults out.old; notes = notes; notes_faults = faults })
         (record { out = O.contents out.new; out_faults = O.faults out.new; notes = notes; notes_faults = faults })
         result }

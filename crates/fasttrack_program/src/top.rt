@@ -1,24 +1,34 @@
 //! The top call: words, image, input, run, and the answer's line, in this order.
 
-ghost use Rattle.std.specs.Prelude.{◌≡◌, ◌⊎◌, true, None, Some, IfSome, map, string_bytes};
+ghost use Rattle.std.specs.Prelude.{◌≡◌, ◌<◌, ◌⊎◌, true, false, None, Some, IfSome, IfNone, IsSome, map, string_bytes, vec_len, vec_capacity};
 ghost use Rattle.host_io.specs.Faults.{Rose};
 ghost use Rattle.program_words.specs.CommandLine.{request_of};
-ghost use Rattle.fasttrack_program.specs.TopCall.{IsAnswered, IsServed, IsRefusedEarly, told_of};
+ghost use Rattle.fasttrack_program.specs.Serving.{IsServedWith, asked};
+ghost use Rattle.fasttrack_program.specs.TopCall.{IsAnswered, IsRefusedEarly, is_bench, needs_workers, told_of};
 
 use crate::answer::Answer;
 use crate::answer_line::conclude;
+use crate::histories::{Histories, hand_out, make_room};
 use crate::serve::serve_request;
+use crate::served::{Served, plain};
+use board_events::Entries;
+use guest_model::NoMemory;
 use host_io::{Files, Sink, Source};
-use program_words::{WordsFault, read_words};
+use program_words::{Request, Task, WordsFault, read_words};
 use std::alloc::Global;
 
 /// Does all that the program does, and answers how it ended. `words` are those behind the program's own name.
 ///
 /// `alone` runs the guest of an image: stream 1 of its output goes to `out`, stream 2 to `notes`. What both got is the
 /// beginning of what the program alone writes within the budget; where the answer is Exited, Trapped or Spent it is all
-/// of it, with the program's own end. `trial` drops the guest's output: `out` gets a beginning of the report of the
-/// program's ledger, totals and end, all of it where the answer is Shown. Every answer but Exited and Shown is told by
-/// one line on `notes`.
+/// of it, with the program's own end. `run` does the same with tracks; behind the guest's output `notes` get the report
+/// and the journal, where they are asked for, and `told` gets the serial history of the run where the answer is Exited,
+/// Trapped or Spent. `trial` drops the guest's output: `out` gets a beginning of the report of the program's ledger,
+/// totals and end, all of it where the answer is Shown. `bench` runs a program of its own with tracks, drops its output
+/// and writes its summary on `out`; it reads neither `files` nor `input`, and `told` gets its history where the answer is
+/// Shown. Every answer but Exited and Shown is told by one line on `notes`.
+///
+/// None exactly where the words ask for workers; nothing was read or written then.
 pub fn plain_main<F: Files, I: Source, O: Sink, N: Sink>(
     alloc: Global,
     words: &[String],
@@ -26,25 +36,36 @@ pub fn plain_main<F: Files, I: Source, O: Sink, N: Sink>(
     input: &mut I,
     out: &mut O,
     notes: &mut N,
-) -> Answer
+    told: &mut Histories,
+) -> Option<Answer>
     ensures answered { let request = request_of (map string_bytes words.now) in
-        IsAnswered request (told_of (F.contents files.old) request) (I.remaining input.old)
+        IfSome result (λ answer. IsAnswered request (told_of (F.contents files.old) request) (I.remaining input.old)
         (record { out = O.contents out.old; out_faults = O.faults out.old; notes = N.contents notes.old; notes_faults = N.faults notes.old })
         (record { out = O.contents out.new; out_faults = O.faults out.new; notes = N.contents notes.new; notes_faults = N.faults notes.new })
-        result }
+        told.old told.new answer) }
 
-    // A fault of files or input is counted, and the input is read only where it is asked for, after the image.
-    ensures read_fault { result ≡ Answer.ReadFault → Rose (F.faults files.old) (F.faults files.new) ⊎ Rose (I.faults input.old) (I.faults input.new) }
+    // Workers are asked for exactly where there is no answer, unless memory ran out before the words were read.
+    ensures none { IfNone result ((needs_workers (request_of (map string_bytes words.now)) ≡ true)
+        × (files.new ≡ files.old) × (input.new ≡ input.old) × (out.new ≡ out.old) × (notes.new ≡ notes.old) × (told.new ≡ told.old)) }
+    ensures some { IfSome result (λ answer. (answer ≡ Answer.NoMemory) ⊎ (needs_workers (request_of (map string_bytes words.now)) ≡ false)) }
+
+    // A fault of files or input is counted, and the input is read only where it is asked for, after the image. A bench
+    // reads neither.
+    ensures read_fault { IfSome result (λ answer. answer ≡ Answer.ReadFault → Rose (F.faults files.old) (F.faults files.new) ⊎ Rose (I.faults input.old) (I.faults input.new)) }
     ensures unread { IfSome (request_of (map string_bytes words.now)) (λ r. r.no_input ≡ true → input.new ≡ input.old) }
-    ensures early { IsRefusedEarly result → input.new ≡ input.old }
+    ensures early { IfSome result (λ answer. IsRefusedEarly answer → input.new ≡ input.old) }
+    ensures bench { IfSome (request_of (map string_bytes words.now)) (λ r. is_bench r.task ≡ true → (files.new ≡ files.old) × (input.new ≡ input.old)) }
     ensures idle { request_of (map string_bytes words.now) ≡ None → (files.new ≡ files.old) × (input.new ≡ input.old) }
     ensures held { F.contents files.new ≡ F.contents files.old }
 {
-    let answer = serve_words(alloc, words, files, input, out, notes);
-    conclude(alloc, answer, notes)
+    let Served { answer, history } =
+        serve_words(alloc, words, files, input, out, notes, &mut told.histories)?;
+    let answer = conclude(alloc, answer, notes);
+    hand_out(&mut told.histories, history, answer);
+    Some(answer)
 }
 
-/// All but the answer's line.
+/// All but the answer's line. There is room for the history that goes with the answer.
 fn serve_words<F: Files, I: Source, O: Sink, N: Sink>(
     alloc: Global,
     words: &[String],
@@ -52,22 +73,44 @@ fn serve_words<F: Files, I: Source, O: Sink, N: Sink>(
     input: &mut I,
     out: &mut O,
     notes: &mut N,
-) -> Answer
+    histories: &mut Vec<Entries>,
+) -> Option<Served>
     ensures served { let request = request_of (map string_bytes words.now) in
-        IsServed request (told_of (F.contents files.old) request) (I.remaining input.old)
+        IfSome result (IsServedWith request (told_of (F.contents files.old) request) (I.remaining input.old)
         (record { out = O.contents out.old; out_faults = O.faults out.old; notes = N.contents notes.old; notes_faults = N.faults notes.old })
-        (record { out = O.contents out.new; out_faults = O.faults out.new; notes = N.contents notes.new; notes_faults = N.faults notes.new })
-        result }
-    ensures read_fault { result ≡ Answer.ReadFault → Rose (F.faults files.old) (F.faults files.new) ⊎ Rose (I.faults input.old) (I.faults input.new) }
+        (record { out = O.contents out.new; out_faults = O.faults out.new; notes = N.contents notes.new; notes_faults = N.faults notes.new })) }
+    ensures none { IfNone result ((needs_workers (request_of (map string_bytes words.now)) ≡ true)
+        × (files.new ≡ files.old) × (input.new ≡ input.old) × (out.new ≡ out.old) × (notes.new ≡ notes.old)) }
+    ensures some { IfSome result (λ served. (served.answer ≡ Answer.NoMemory) ⊎ (needs_workers (request_of (map string_bytes words.now)) ≡ false)) }
+    ensures items { histories.new.items ≡ histories.old.items }
+    ensures room { IfSome result (λ served. IsSome served.history → vec_len histories.new < vec_capacity histories.new) }
+    ensures read_fault { IfSome result (λ served. served.answer ≡ Answer.ReadFault → Rose (F.faults files.old) (F.faults files.new) ⊎ Rose (I.faults input.old) (I.faults input.new)) }
     ensures unread { IfSome (request_of (map string_bytes words.now)) (λ r. r.no_input ≡ true → input.new ≡ input.old) }
-    ensures early { IsRefusedEarly result → input.new ≡ input.old }
+    ensures early { IfSome result (λ served. IsRefusedEarly served.answer → input.new ≡ input.old) }
+    ensures bench { IfSome (request_of (map string_bytes words.now)) (λ r. is_bench r.task ≡ true → (files.new ≡ files.old) × (input.new ≡ input.old)) }
     ensures idle { request_of (map string_bytes words.now) ≡ None → (files.new ≡ files.old) × (input.new ≡ input.old) }
     ensures held { F.contents files.new ≡ F.contents files.old }
 {
     let request = match read_words(alloc, words) {
         Ok(request) => request,
-        Err(WordsFault::Usage) => return Answer::Usage,
-        Err(WordsFault::NoMemory) => return Answer::NoMemory,
+        Err(WordsFault::Usage) => return Some(plain(Answer::Usage)),
+        Err(WordsFault::NoMemory) => return Some(plain(Answer::NoMemory)),
     };
-    serve_request(alloc, &request, files, input, out, notes)
+    if asks_for_workers(&request) {
+        return None;
+    }
+    match make_room(histories, request.task) {
+        Ok(()) => Some(serve_request(alloc, &request, files, input, out, notes)),
+        Err(NoMemory) => Some(plain(Answer::NoMemory)),
+    }
+}
+
+/// Whether a request is one for tracks on more than one thread.
+fn asks_for_workers(request: &Request<'_>) -> bool
+    ensures { result ≡ needs_workers (Some (asked request.now)) }
+{
+    match request.task {
+        Task::Alone | Task::Trial => false,
+        Task::Run | Task::Bench(_) => request.workers >= 1,
+    }
 }

@@ -1,24 +1,67 @@
+use Rattle.std.proofs.Common.{◌≡◌, false, Some, inl, sym, subst}
+use Rattle.elf32_loader.specs.LoadedImage.{image_of_loaded}
+use Rattle.elf32_loader.specs.declared.loaded.Loaded.{Loaded}
+use Rattle.guest_streams.specs.GuestStreams.{Sinks}
 use Rattle.program_words.specs.CommandLine.{Request}
-use Rattle.fasttrack_program.proofs.OnPlans.{served-image, served-input, served-no_input}
+use Rattle.program_words.specs.declared.request.Task.TheVariants.{Bench}
+use Rattle.fasttrack_program.specs.Plan.{Runs, bench_plan, options_of}
+use Rattle.fasttrack_program.specs.Serving.{IsDone, IsServedWith, asked}
+use Rattle.fasttrack_program.specs.TopCall.{is_bench}
+use Rattle.fasttrack_program.proofs.OnPlans.{no_bench, served-image, served-input, served-no_input, served-runs, served-bench, late-input, late-runs, counted-image}
 use Rattle.fasttrack_program.proofs.serve.serve_request.Goals as goal
+
+pub returns-in-Bench-clause-served : goal.returns-in-Bench-clause-served
+returns-in-Bench-clause-served g c =
+    let before : Sinks = record { out = g.O.Sink.contents c.args.out.now; out_faults = g.O.Sink.faults c.args.out.now; notes = g.N.Sink.contents c.args.notes.now; notes_faults = g.N.Sink.faults c.args.notes.now } in
+    let after : Sinks = record before { out = g.O.Sink.contents c.show_bench.new.out; out_faults = g.O.Sink.faults c.show_bench.new.out } in
+    served-bench (asked c.args.request.now) (g.F.Files.contents c.args.files.now c.args.request.now.image.now) (g.I.Source.remaining c.args.input.now) before after c.show_bench.result c.in-Bench.number c.in-Bench.is
+    (subst (λ o. IsDone (Bench c.in-Bench.number) (bench_plan c.in-Bench.number o) before after c.show_bench.result) c.options_in-options.ensures
+    (c.show_bench.ensures.done before.notes before.notes_faults))
 
 pub returns-in-Err-clause-served : goal.returns-in-Err-clause-served
 returns-in-Err-clause-served g c =
-    let r : Request = record { task = c.args.request.now.task; image = c.args.request.now.image.now; budget = c.args.request.now.budget; no_input = c.args.request.now.no_input } in
-    served-image r (g.F.Files.contents c.args.files.now c.args.request.now.image.now) (g.I.Source.remaining c.args.input.now) _ c.in-Err.answer c.in-Err.ensures.reads
+    let before : Sinks = record { out = g.O.Sink.contents c.args.out.now; out_faults = g.O.Sink.faults c.args.out.now; notes = g.N.Sink.contents c.args.notes.now; notes_faults = g.N.Sink.faults c.args.notes.now } in
+    let reads : is_bench c.args.request.now.task ≡ false = no_bench c.args.request.now.task c.in_default.not-Bench in
+    subst (IsServedWith (Some (asked c.args.request.now)) (g.F.Files.contents c.args.files.now c.args.request.now.image.now) (g.I.Source.remaining c.args.input.now) before before) (sym c.plain.ensures)
+    (served-image (asked c.args.request.now) (g.F.Files.contents c.args.files.now c.args.request.now.image.now) (g.I.Source.remaining c.args.input.now) reads before c.in-Err.answer c.in-Err.ensures.reads)
 
-pub returns-then-no_input-clause-served : goal.returns-then-no_input-clause-served
-returns-then-no_input-clause-served g c =
-    let r : Request = record { task = c.args.request.now.task; image = c.args.request.now.image.now; budget = c.args.request.now.budget; no_input = c.args.request.now.no_input } in
-    served-no_input r (g.F.Files.contents c.args.files.now c.args.request.now.image.now) (g.I.Source.remaining c.args.input.now) _ _ c.in-Ok.loaded c.do_task.result c.if-no_input.true c.in-Ok.ensures.reads c.do_task.ensures.serves
+pub returns-in-Err-clause-read_fault : goal.returns-in-Err-clause-read_fault
+returns-in-Err-clause-read_fault g c = λ h. inl (counted-image Loaded _ _ c.in-Err.answer c.plain.result c.in-Err.ensures.counted c.plain.ensures h)
 
-pub returns-then-no_input-clause-read_fault : goal.returns-then-no_input-clause-read_fault
-returns-then-no_input-clause-read_fault g c = λ h. absurd (c.do_task.ensures.reads_nothing h)
+pub returns-then-request-clause-served : goal.returns-then-request-clause-served
+returns-then-request-clause-served g c =
+    let before : Sinks = record { out = g.O.Sink.contents c.args.out.now; out_faults = g.O.Sink.faults c.args.out.now; notes = g.N.Sink.contents c.args.notes.now; notes_faults = g.N.Sink.faults c.args.notes.now } in
+    let after : Sinks = record { out = g.O.Sink.contents c.do_task.new.out; out_faults = g.O.Sink.faults c.do_task.new.out; notes = g.N.Sink.contents c.do_task.new.notes; notes_faults = g.N.Sink.faults c.do_task.new.notes } in
+    let r : Request = asked c.args.request.now in
+    let reads : is_bench c.args.request.now.task ≡ false = no_bench c.args.request.now.task c.in_default.not-Bench in
+    served-no_input r (g.F.Files.contents c.args.files.now c.args.request.now.image.now) (g.I.Source.remaining c.args.input.now) before after c.do_task.result c.in-Ok.loaded reads c.if-request.true c.in-Ok.ensures.reads
+    (subst (λ bs. IsDone r.task (Runs r.task (image_of_loaded c.in-Ok.loaded) bs (options_of r)) before after c.do_task.result) c.new.ensures
+    (subst (λ o. IsDone r.task (Runs r.task (image_of_loaded c.in-Ok.loaded) c.new.result o) before after c.do_task.result) c.options_in-options.ensures c.do_task.ensures.done))
+
+pub returns-then-request-clause-read_fault : goal.returns-then-request-clause-read_fault
+returns-then-request-clause-read_fault g c = λ h. absurd (c.do_task.ensures.reads_nothing h)
+
+pub returns-in-Ok-read_input-clause-served : goal.returns-in-Ok-read_input-clause-served
+returns-in-Ok-read_input-clause-served g c =
+    let before : Sinks = record { out = g.O.Sink.contents c.args.out.now; out_faults = g.O.Sink.faults c.args.out.now; notes = g.N.Sink.contents c.args.notes.now; notes_faults = g.N.Sink.faults c.args.notes.now } in
+    let after : Sinks = record { out = g.O.Sink.contents c.do_task-in-Ok-read_input.new.out; out_faults = g.O.Sink.faults c.do_task-in-Ok-read_input.new.out; notes = g.N.Sink.contents c.do_task-in-Ok-read_input.new.notes; notes_faults = g.N.Sink.faults c.do_task-in-Ok-read_input.new.notes } in
+    let r : Request = asked c.args.request.now in
+    let reads : is_bench c.args.request.now.task ≡ false = no_bench c.args.request.now.task c.in_default.not-Bench in
+    served-runs r (g.F.Files.contents c.args.files.now c.args.request.now.image.now) (g.I.Source.remaining c.args.input.now) before after c.do_task-in-Ok-read_input.result c.in-Ok.loaded c.in-Ok-read_input.bytes reads c.if-request.false c.in-Ok.ensures.reads c.in-Ok-read_input.ensures.reads
+    (subst (λ o. IsDone r.task (Runs r.task (image_of_loaded c.in-Ok.loaded) c.in-Ok-read_input.bytes o) before after c.do_task-in-Ok-read_input.result) c.options_in-options.ensures c.do_task-in-Ok-read_input.ensures.done)
 
 pub returns-in-Ok-read_input-clause-read_fault : goal.returns-in-Ok-read_input-clause-read_fault
 returns-in-Ok-read_input-clause-read_fault g c = λ h. absurd (c.do_task-in-Ok-read_input.ensures.reads_nothing h)
 
+pub returns-in-Ok-read_input-clause-early : goal.returns-in-Ok-read_input-clause-early
+returns-in-Ok-read_input-clause-early g c = λ h. absurd (late-runs _ _ _ _ _ _ c.do_task-in-Ok-read_input.result c.do_task-in-Ok-read_input.ensures.done h)
+
 pub returns-clause-served : goal.returns-clause-served
 returns-clause-served g c =
-    let r : Request = record { task = c.args.request.now.task; image = c.args.request.now.image.now; budget = c.args.request.now.budget; no_input = c.args.request.now.no_input } in
-    served-input r (g.F.Files.contents c.args.files.now c.args.request.now.image.now) (g.I.Source.remaining c.args.input.now) _ c.in-Ok.loaded c.in-Err-read_input.answer c.if-no_input.false c.in-Ok.ensures.reads c.in-Err-read_input.ensures.reads
+    let before : Sinks = record { out = g.O.Sink.contents c.args.out.now; out_faults = g.O.Sink.faults c.args.out.now; notes = g.N.Sink.contents c.args.notes.now; notes_faults = g.N.Sink.faults c.args.notes.now } in
+    let reads : is_bench c.args.request.now.task ≡ false = no_bench c.args.request.now.task c.in_default.not-Bench in
+    subst (IsServedWith (Some (asked c.args.request.now)) (g.F.Files.contents c.args.files.now c.args.request.now.image.now) (g.I.Source.remaining c.args.input.now) before before) (sym c.plain-in-Err-read_input.ensures)
+    (served-input (asked c.args.request.now) (g.F.Files.contents c.args.files.now c.args.request.now.image.now) (g.I.Source.remaining c.args.input.now) reads before c.in-Ok.loaded c.in-Err-read_input.answer c.if-request.false c.in-Ok.ensures.reads c.in-Err-read_input.ensures.reads)
+
+pub returns-clause-early : goal.returns-clause-early
+returns-clause-early g c = λ h. absurd (late-input (g.I.Source.remaining c.args.input.now) c.in-Err-read_input.answer c.plain-in-Err-read_input.result c.in-Err-read_input.ensures.reads c.plain-in-Err-read_input.ensures h)

@@ -1,9 +1,14 @@
+use Rattle.std.proofs.Common.{ap, ◌∙◌}
 use Rattle.guest_streams.specs.GuestStreams.{Sinks}
+use Rattle.fasttrack_program.specs.Serving.{with_history}
 use Rattle.fasttrack_program.proofs.OnPlans.{answered}
 use Rattle.fasttrack_program.proofs.top.plain_main.Goals as goal
 
 pub returns-clause-answered : goal.returns-clause-answered
 returns-clause-answered g c =
-    let served = c.serve_words-answer in
-    let between : Sinks = record { out = g.O.Sink.contents served.new.out; out_faults = g.O.Sink.faults served.new.out; notes = g.N.Sink.contents served.new.notes; notes_faults = g.N.Sink.faults served.new.notes } in
-    answered _ _ (g.I.Source.remaining c.args.input.now) _ between (g.N.Sink.contents c.conclude.new.notes) (g.N.Sink.faults c.conclude.new.notes) served.result c.conclude.result served.ensures.served c.conclude.ensures
+    let calls = c.serve_words in
+    let served = c.in_ok-answer.field-0 in
+    let between : Sinks = record { out = g.O.Sink.contents calls.new.out; out_faults = g.O.Sink.faults calls.new.out; notes = g.N.Sink.contents calls.new.notes; notes_faults = g.N.Sink.faults calls.new.notes } in
+    answered _ _ (g.I.Source.remaining c.args.input.now) _ between (g.N.Sink.contents c.conclude-answer.new.notes) (g.N.Sink.faults c.conclude-answer.new.notes) c.args.told.now c.hand_out.new.histories.items served c.conclude-answer.result
+    c.in_ok-answer.ensures.served c.conclude-answer.ensures
+    (c.hand_out.ensures ∙ ap (λ xs. with_history xs served.history c.conclude-answer.result) (calls.ensures.items ∙ c.told.view_is))

@@ -1,0 +1,18 @@
+-- A run of an image with tracks
+use Rattle.std.specs.Prelude.{ℕ, List}
+use Rattle.speculation.specs.declared.history.Entry.{Entry}
+use Rattle.elf32_loader.specs.declared.loaded.Loaded.{Loaded}
+use Rattle.guest_streams.specs.GuestStreams.{Sinks}
+use Rattle.track_board.specs.Value.{Posted}
+use Rattle.worker_gate.specs.Conducting.{Conducts}
+use Rattle.worker_gate.specs.declared.conducted.Conducted.{Conducted}
+use Rattle.fasttrack_program.specs.TopCall.{settings_of}
+use Rattle.fasttrack_program.specs.declared.options.Options.{Options}
+
+-- a board of this image and input with these options
+abbrev pub board_for : Loaded → List ℕ → Options → List Entry → Posted
+board_for l input o entries = record { settings = settings_of o; loaded = l; input = input; entries = entries }
+
+-- such a board was brought from its first entry to its end
+abbrev pub RunsTracks : Loaded → List ℕ → Options → Sinks → Sinks → Conducted → Type 0
+RunsTracks l input o old new r = (entries : List Entry) × Conducts (board_for l input o entries) old new r

@@ -1,0 +1,32 @@
+//! How a task is done.
+
+ghost use Rattle.std.specs.Prelude.{◌≡◌};
+ghost use Rattle.fasttrack_program.specs.Plan.{options_of};
+ghost use Rattle.fasttrack_program.specs.Serving.{asked};
+
+use program_words::Request;
+
+/// How a task is done.
+#[derive(Clone, Copy, Debug, PartialEq, Eq)]
+pub struct Options {
+    /// How many regions may be open at once, from 1 to 32.
+    pub tracks: u64,
+    /// How many instructions the guest runs at most, from 1 to 2^40.
+    pub budget: u64,
+    /// Whether the report of the program stands behind the guest's output.
+    pub report: bool,
+    /// Whether the journal of the run does.
+    pub journal: bool,
+}
+
+/// The options of a request.
+pub fn options_in(request: &Request<'_>) -> Options
+    ensures { result ≡ options_of (asked request.now) }
+{
+    Options {
+        tracks: request.tracks,
+        budget: request.budget,
+        report: request.report,
+        journal: request.journal,
+    }
+}

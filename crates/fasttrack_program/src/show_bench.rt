@@ -1,0 +1,149 @@
+//! The task `bench`: a program for benches, run with tracks, and the summary of it.
+
+ghost use Rattle.std.specs.Prelude.{◌≡◌, ℕ, ◌≤◌, ◌<◌, ◌^◌, All, List, Option, Ok, IfOk};
+ghost use Rattle.speculation.specs.Ledger.{originals};
+ghost use Rattle.guest_model.specs.Image.{image};
+ghost use Rattle.elf32_loader.specs.LoadedImage.{image_of_loaded};
+ghost use Rattle.program_words.specs.declared.request.Task.TheVariants.{Bench};
+ghost use Rattle.region_ledger.specs.Ledger.{ledger_rows, totals_of, SavesAtMostAll};
+ghost use Rattle.report_text.specs.Reports.{bench_lines};
+ghost use Rattle.rv32_asm.specs.Generated.{generated};
+ghost use Rattle.track_board.specs.Value.{IsSettings};
+ghost use Rattle.worker_gate.specs.Conducting.{released_total};
+ghost use Rattle.fasttrack_program.specs.Plan.{bench_plan, bench_regions};
+ghost use Rattle.fasttrack_program.specs.Serving.{IsDone};
+ghost use Rattle.fasttrack_program.specs.TextOnSink.{WritesText};
+ghost use Rattle.fasttrack_program.specs.TopCall.{settings_of};
+
+use crate::answer::Answer;
+use crate::boards::run_tracks;
+use crate::options::Options;
+use crate::report::write_line;
+use crate::served::{Served, plain};
+use elf32_loader::{ImageFault, Loaded, load};
+use guest_model::{Bytes, NoMemory};
+use guest_streams::OutputFault;
+use host_io::{CountSink, Sink};
+use region_ledger::{Finished, Row, totals};
+use report_text::bench_text;
+use rv32_asm::generate;
+use std::alloc::Global;
+use track_board::{Entry, Outcome};
+use worker_gate::Conducted;
+
+/// How many regions the program of a bench has.
+const REGIONS: u32 = 64;
+
+/// Runs the program for benches of this number with tracks, on one thread and without input, and writes its summary on
+/// `out`. What the guest writes is counted and dropped.
+pub fn show_bench<O: Sink>(alloc: Global, number: u32, options: &Options, out: &mut O) -> Served
+    requires { IsSettings (settings_of options.now) }
+
+    // Whatever notes hold, they are left alone.
+    ensures done { (notes : Option (List ℕ)) → (faults : ℕ) → IsDone (Bench number) (bench_plan number options.now)
+        (record { out = O.contents out.old; out_faults = O.faults out.old; notes = notes; notes_faults = faults })
+        (record { out = O.contents out.new; out_faults = O.faults out.new; notes = notes; notes_faults = faults })
+        result }
+    ensures reads_nothing { result.answer ≡ Answer.ReadFault → ⊥ }
+{
+    let Ok(loaded) = load_bench(alloc, number) else {
+        return plain(Answer::NoMemory);
+    };
+    let outcome = match run_tracks(
+        alloc,
+        &loaded,
+        Bytes::new(alloc),
+        options,
+        &mut CountSink::new(),
+        &mut CountSink::new(),
+    ) {
+        Conducted::Done(outcome) => outcome,
+        // A sink that counts doesn't fail.
+        Conducted::WriteFault => unreachable!(),
+        Conducted::NoMemory => return plain(Answer::NoMemory),
+    };
+    let Outcome {
+        finished,
+        rows,
+        entries,
+    } = outcome;
+    let Some(finished) = finished else {
+        unreachable!()
+    };
+    match write_summary(
+        alloc,
+        number,
+        rows.as_slice(),
+        &finished,
+        entries.as_slice(),
+        out,
+    ) {
+        Ok(()) => Served {
+            answer: Answer::Shown,
+            history: Some(entries),
+        },
+        Err(OutputFault::Write) => plain(Answer::WriteFault),
+        Err(OutputFault::NoMemory) => plain(Answer::NoMemory),
+    }
+}
+
+/// The loaded image of the program for benches of this number, which has no fault.
+///
+/// # Errors
+/// `NoMemory` where there is no room for it.
+fn load_bench(alloc: Global, number: u32) -> Result<Loaded, NoMemory>
+    ensures { IfOk result (λ l. image (generated number bench_regions) ≡ Ok (image_of_loaded l)) }
+{
+    let bytes = generate(alloc, number, REGIONS)?;
+    match load(alloc, bytes.as_slice()) {
+        Ok(loaded) => Ok(loaded),
+        Err(ImageFault::NoMemory) => Err(NoMemory),
+        Err(_) => unreachable!(),
+    }
+}
+
+/// Writes the summary of the bench of this number.
+///
+/// # Errors
+/// `Write` where the sink failed, and `NoMemory` where there was no room for it. The sink has a beginning of the summary
+/// then.
+fn write_summary<O: Sink>(
+    alloc: Global,
+    number: u32,
+    rows: &[Row],
+    finished: &Finished,
+    entries: &[Entry],
+    out: &mut O,
+) -> Result<(), OutputFault>
+    requires inside { originals (ledger_rows rows.now) ≤ finished.now.count }
+    requires saves { All SavesAtMostAll rows.now }
+    requires size { released_total entries.now < 2 ^ 64 }
+    ensures { WritesText (O.contents out.old) (O.contents out.new) (O.faults out.old) (O.faults out.new)
+        (bench_lines number (totals_of rows.now finished.now.count) (released_total entries.now) finished.now.end) result }
+{
+    let totals = totals(rows, finished.count);
+    match bench_text(
+        alloc,
+        number,
+        &totals,
+        released_total(entries),
+        &finished.end,
+    ) {
+        Ok(text) => write_line(text.as_str(), out),
+        Err(NoMemory) => Err(OutputFault::NoMemory),
+    }
+}
+
+/// How many bytes these entries released.
+fn released_total(entries: &[Entry]) -> u64
+    requires { released_total entries.now < 2 ^ 64 }
+    ensures { result ≡ released_total entries.now }
+{
+    let mut total = 0;
+    for entry in entries {
+        if let Entry::Release { bytes } = *entry {
+            total += bytes;
+        }
+    }
+    total
+}

@@ -1,0 +1,132 @@
+//! The task `run`: the guest with tracks, and the texts behind its output.
+
+ghost use Rattle.std.specs.Prelude.{◌≡◌, ◌≤◌, All};
+ghost use Rattle.speculation.specs.Ledger.{originals};
+ghost use Rattle.elf32_loader.specs.LoadedImage.{image_of_loaded};
+ghost use Rattle.program_words.specs.declared.request.Task.TheVariants.{Run};
+ghost use Rattle.region_ledger.specs.Ledger.{ledger_rows, SavesAtMostAll};
+ghost use Rattle.track_board.specs.Value.{IsSettings};
+ghost use Rattle.fasttrack_program.specs.Plan.{Runs};
+ghost use Rattle.fasttrack_program.specs.Reports.{asked_report, asked_journal, asked_texts};
+ghost use Rattle.fasttrack_program.specs.Serving.{IsDone};
+ghost use Rattle.fasttrack_program.specs.TextOnSink.{WritesText};
+ghost use Rattle.fasttrack_program.specs.TopCall.{settings_of};
+
+use crate::answer::{Answer, answer_of};
+use crate::boards::run_tracks;
+use crate::journal::write_journal;
+use crate::options::Options;
+use crate::report::write_report;
+use crate::served::{Served, plain};
+use elf32_loader::Loaded;
+use guest_model::Bytes;
+use guest_streams::OutputFault;
+use host_io::Sink;
+use region_ledger::{Finished, Row};
+use std::alloc::Global;
+use track_board::{Entry, Outcome};
+use worker_gate::Conducted;
+
+/// Runs the guest with tracks on one thread, and writes the texts that are asked for on `notes` once its end was reached.
+/// What it writes and how it ends is what the guest alone writes and how that ends.
+pub fn show_run<O: Sink, N: Sink>(
+    alloc: Global,
+    loaded: &Loaded,
+    input: Bytes,
+    options: &Options,
+    out: &mut O,
+    notes: &mut N,
+) -> Served
+    requires { IsSettings (settings_of options.now) }
+    ensures done { IsDone Run (Runs Run (image_of_loaded loaded.now) input options.now)
+        (record { out = O.contents out.old; out_faults = O.faults out.old; notes = N.contents notes.old; notes_faults = N.faults notes.old })
+        (record { out = O.contents out.new; out_faults = O.faults out.new; notes = N.contents notes.new; notes_faults = N.faults notes.new })
+        result }
+    ensures reads_nothing { result.answer ≡ Answer.ReadFault → ⊥ }
+{
+    let outcome = match run_tracks(alloc, loaded, input, options, out, notes) {
+        Conducted::Done(outcome) => outcome,
+        Conducted::WriteFault => return plain(Answer::WriteFault),
+        Conducted::NoMemory => return plain(Answer::NoMemory),
+    };
+    let Outcome {
+        finished,
+        rows,
+        entries,
+    } = outcome;
+    let Some(finished) = finished else {
+        unreachable!()
+    };
+    match write_texts(
+        alloc,
+        options,
+        rows.as_slice(),
+        &finished,
+        entries.as_slice(),
+        notes,
+    ) {
+        Ok(()) => Served {
+            answer: answer_of(finished.end),
+            history: Some(entries),
+        },
+        Err(OutputFault::Write) => plain(Answer::WriteFault),
+        Err(OutputFault::NoMemory) => plain(Answer::NoMemory),
+    }
+}
+
+/// Writes the texts that are asked for behind the guest's output: the report, then the journal.
+///
+/// # Errors
+/// `Write` where the sink failed, and `NoMemory` where there was no room for a line. The sink has a beginning of the
+/// texts then.
+fn write_texts<N: Sink>(
+    alloc: Global,
+    options: &Options,
+    rows: &[Row],
+    finished: &Finished,
+    entries: &[Entry],
+    notes: &mut N,
+) -> Result<(), OutputFault>
+    requires inside { originals (ledger_rows rows.now) ≤ finished.now.count }
+    requires saves { All SavesAtMostAll rows.now }
+    ensures { WritesText (N.contents notes.old) (N.contents notes.new) (N.faults notes.old) (N.faults notes.new)
+        (asked_texts options.now rows.now finished.now entries.now) result }
+{
+    write_asked_report(alloc, options, rows, finished, notes)?;
+    write_asked_journal(alloc, options, entries, notes)
+}
+
+/// Writes the report, if it is asked for.
+fn write_asked_report<N: Sink>(
+    alloc: Global,
+    options: &Options,
+    rows: &[Row],
+    finished: &Finished,
+    notes: &mut N,
+) -> Result<(), OutputFault>
+    requires inside { originals (ledger_rows rows.now) ≤ finished.now.count }
+    requires saves { All SavesAtMostAll rows.now }
+    ensures { WritesText (N.contents notes.old) (N.contents notes.new) (N.faults notes.old) (N.faults notes.new)
+        (asked_report options.now rows.now finished.now) result }
+{
+    if !options.report {
+        return Ok(());
+    }
+    write_report(alloc, rows, finished, notes)
+}
+
+/// Writes the journal, if it is asked for.
+fn write_asked_journal<N: Sink>(
+    alloc: Global,
+    options: &Options,
+    entries: &[Entry],
+    notes: &mut N,
+) -> Result<(), OutputFault>
+    ensures { WritesText (N.contents notes.old) (N.contents notes.new) (N.faults notes.old) (N.faults notes.new)
+        (asked_journal options.now entries.now) result }
+{
+    if !options.journal {
+        return Ok(());
+    }
+    write_journal(alloc, entries, notes)
+}
