@@ -139,13 +139,16 @@ runs-conducted l input o v w old new r is same h = (w.entries, subst (λ x. Cond
 
 -- there was no board
 pub runs-nothing : (l : Loaded) (input : List ℕ) (o : Options) (s : Sinks) → RunsTracks l input o s s C.NoMemory
-runs-nothing l input o s = ([], record {
-  got = [];
-  rest = output_of (program_alone (image_of_loaded l) input o.budget);
-  parts = refl;
-  gets = Gets-nothing s;
-  calm = IsCalm-refl s;
-})
+runs-nothing l input o s = (
+  [],
+  record {
+    got = [];
+    rest = output_of (program_alone (image_of_loaded l) input o.budget);
+    parts = refl;
+    gets = Gets-nothing s;
+    calm = IsCalm-refl s;
+  },
+)
 
 guest_of : (l : Loaded) (input : List ℕ) → IsGuestState input (start_of (image_of_loaded l))
 guest_of l input = start-is-guest input l.entry l.areas l.heap l.layout

@@ -53,7 +53,7 @@ program_report i input budget =
 unfoldable pub bench_report : ℕ → Image → List ℕ → ℕ → List ℕ
 bench_report number i input budget =
     bench_lines number (totals_of (told_ledger i input budget) (program_alone i input budget).count)
-        (length (output_of (program_alone i input budget))) (end_of (program_alone i input budget).end)
+    (length (output_of (program_alone i input budget))) (end_of (program_alone i input budget).end)
 
 -- ---- the journal
 

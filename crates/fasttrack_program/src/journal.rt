@@ -31,11 +31,7 @@ pub fn write_journal<N: Sink>(
 }
 
 /// Writes the line of an entry.
-fn write_entry<N: Sink>(
-    alloc: Global,
-    entry: &Entry,
-    notes: &mut N,
-) -> Result<(), OutputFault>
+fn write_entry<N: Sink>(alloc: Global, entry: &Entry, notes: &mut N) -> Result<(), OutputFault>
     ensures { WritesText (N.contents notes.old) (N.contents notes.new) (N.faults notes.old) (N.faults notes.new) (text_of entry.now ++ 10 ∷ []) result }
 {
     match entry_text(alloc, entry) {

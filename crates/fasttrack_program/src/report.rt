@@ -7,8 +7,8 @@ ghost use Rattle.report_text.specs.Reports.{row_line, totals_line, end_line};
 ghost use Rattle.fasttrack_program.specs.Reports.{report, rows_text};
 ghost use Rattle.fasttrack_program.specs.TextOnSink.{WritesText};
 
-use guest_streams::OutputFault;
 use guest_model::{End, NoMemory};
+use guest_streams::OutputFault;
 use host_io::{Failed, Sink, write_whole};
 use region_ledger::{Finished, Row, Totals, totals};
 use report_text::{end_text, row_text, totals_text};

@@ -74,22 +74,9 @@ fn do_task<O: Sink, N: Sink>(
     ensures reads_nothing { result.answer ≡ Answer.ReadFault → ⊥ }
 {
     match task {
-        Task::Alone => plain(run_image(
-            alloc,
-            loaded,
-            input.as_slice(),
-            options,
-            out,
-            notes,
-        )),
+        Task::Alone => plain(run_image(alloc, loaded, input.as_slice(), options, out, notes)),
         Task::Run => show_run(alloc, loaded, input, options, out, notes),
-        Task::Trial => plain(show_trial(
-            alloc,
-            loaded,
-            input.as_slice(),
-            options.budget,
-            out,
-        )),
+        Task::Trial => plain(show_trial(alloc, loaded, input.as_slice(), options.budget, out)),
         Task::Bench(_) => unreachable!(),
     }
 }

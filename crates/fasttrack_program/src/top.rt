@@ -58,8 +58,15 @@ pub fn plain_main<F: Files, I: Source, O: Sink, N: Sink>(
     ensures idle { request_of (map string_bytes words.now) ≡ None → (files.new ≡ files.old) × (input.new ≡ input.old) }
     ensures held { F.contents files.new ≡ F.contents files.old }
 {
-    let Served { answer, history } =
-        serve_words(alloc, words, files, input, out, notes, &mut told.histories)?;
+    let Served { answer, history } = serve_words(
+        alloc,
+        words,
+        files,
+        input,
+        out,
+        notes,
+        &mut told.histories,
+    )?;
     let answer = conclude(alloc, answer, notes);
     hand_out(&mut told.histories, history, answer);
     Some(answer)

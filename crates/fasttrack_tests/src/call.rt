@@ -1,6 +1,6 @@
 //! One call of the program over files and streams in memory.
 
-use fasttrack_program::{Answer, plain_main};
+use fasttrack_program::{Answer, Histories, plain_main};
 use guest_model::Bytes;
 use host_io::{MemoryFiles, MemorySink, MemorySource};
 use rv32_asm::small_image;
@@ -13,18 +13,21 @@ pub struct Given<'a> {
     pub image: &'a [u8],
     pub input: &'a [u8],
     pub words: &'a [&'a str],
+    /// How many bytes `out` has room for.
+    pub room: usize,
     pub failing_files: &'a [u64],
     pub failing_input: &'a [u64],
     pub failing_out: &'a [u64],
     pub failing_notes: &'a [u64],
 }
 
-/// What it answers, and what the sinks got.
-#[derive(Debug, Drop)]
+/// What it answers, what the sinks got, and the histories that were handed out.
+#[derive(Drop)]
 pub struct Got {
     pub answer: Answer,
     pub out: Vec<u8>,
     pub notes: Vec<u8>,
+    pub told: Histories,
 }
 
 /// A call of `alone g` with nothing that fails.
@@ -33,6 +36,7 @@ pub fn plain<'a>(image: &'a [u8], input: &'a [u8]) -> Given<'a> {
         image,
         input,
         words: &["alone", "g"],
+        room: 65_536,
         failing_files: &[],
         failing_input: &[],
         failing_out: &[],
@@ -66,8 +70,13 @@ pub fn call(alloc: Global, given: &Given<'_>) -> Result<Got, Fail> {
         bytes_of(alloc, given.input)?,
         Vec::from_slice(alloc, given.failing_input)?,
     );
-    let mut out = MemorySink::new(alloc, 65536, Vec::from_slice(alloc, given.failing_out)?)?;
+    let mut out = MemorySink::new(
+        alloc,
+        given.room,
+        Vec::from_slice(alloc, given.failing_out)?,
+    )?;
     let mut notes = MemorySink::new(alloc, 65536, Vec::from_slice(alloc, given.failing_notes)?)?;
+    let mut told = Histories::new(alloc);
     let answer = plain_main(
         alloc,
         words.as_slice(),
@@ -75,10 +84,15 @@ pub fn call(alloc: Global, given: &Given<'_>) -> Result<Got, Fail> {
         &mut input,
         &mut out,
         &mut notes,
+        &mut told,
     );
+    let Some(answer) = answer else {
+        return Err(Fail::new("the words ask for workers"));
+    };
     Ok(Got {
         answer,
         out: Vec::from_slice(alloc, out.written())?,
         notes: Vec::from_slice(alloc, notes.written())?,
+        told,
     })
 }

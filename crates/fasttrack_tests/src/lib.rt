@@ -10,4 +10,6 @@ mod hostile;
 #[cfg(test)]
 mod programs;
 #[cfg(test)]
+mod tracks;
+#[cfg(test)]
 mod versions;

@@ -1,8 +1,9 @@
-//! Both versions of a region, checked by `trial`.
+//! Both versions of a region: the ledgers that `trial` finds by plain runs, and `run` with tracks.
 
 use crate::call::{Given, Got, call, image_of, plain};
-use crate::programs::{SUM, SUM_TWICE, TWO_STREAMS};
+use crate::programs::{SUM, SUM_TWICE};
 use fasttrack_program::{Answer, status};
+use guest_model::Trap;
 use rv32_asm::generate;
 use std::alloc::Global;
 use std::process::Abort;
@@ -16,6 +17,16 @@ const DIFFERS: &str = "kept 0 differs 1 stopped 0 late 0";
 const STOPPED: &str = "kept 0 differs 0 stopped 1 late 0";
 
 const LATE: &str = "kept 0 differs 0 stopped 0 late 1";
+
+/// The report of `generate(1, 6)`.
+pub const MANY_REGIONS: &str = "region 0 at 4 pc 00010010 original 30010 fast 7 kept\n\
+     region 1 at 30023 pc 0001006c original 30031 fast 7 differs register 10\n\
+     region 2 at 60063 pc 000100c8 original 30052 fast 30052 late\n\
+     region 3 at 90124 pc 00010118 original 30073 fast 7 kept\n\
+     region 4 at 120206 pc 00010174 original 30094 fast 7 kept\n\
+     region 5 at 150309 pc 000101d0 original 30115 fast 7 differs register 10\n\
+     regions 6 kept 3 differs 2 stopped 0 late 1 alone 180435 path 90279\n\
+     end exit 0\n";
 
 /// `SUM` with another fast part, of at most a hundred instructions. Its end moves behind the part, and the jump over the
 /// part goes there.
@@ -31,23 +42,59 @@ fn with_fast_part(alloc: Global, part: &[u32]) -> Result<Vec<u32>, Fail> {
     Ok(words)
 }
 
-/// `trial` of the small image of these words, with this budget and the input `abc`.
-fn trial_of(alloc: Global, words: &[u32], budget: &str) -> Result<Got, Fail> {
+/// What is told of a program: its end, its output, its report, and the line on notes behind it.
+#[derive(Clone, Copy)]
+struct Told<'a> {
+    answer: Answer,
+    out: &'a [u8],
+    report: &'a str,
+    line: &'a str,
+}
+
+/// A program that exits so, without output.
+fn exits<'a>(code: u32, report: &'a str) -> Told<'a> {
+    Told {
+        answer: Answer::Exited(code),
+        out: b"",
+        report,
+        line: "",
+    }
+}
+
+/// The call of this command on the small image of these words, with this budget and the input `abc`.
+fn call_of(alloc: Global, words: &[u32], command: &[&str], budget: &str) -> Result<Got, Fail> {
     let image = image_of(alloc, words)?;
+    let mut line = Vec::from_slice(alloc, command)?;
+    line.push("--budget")?;
+    line.push(budget)?;
     call(
         alloc,
         &Given {
-            words: &["trial", "g", "--budget", budget],
+            words: line.as_slice(),
             ..plain(image.as_slice(), b"abc")
         },
     )
 }
 
-/// The report is shown, and nothing else is written.
-fn check(rt: &impl Abort, got: &Got, report: &str) -> Result<(), Fail> {
-    assert!(rt; got.answer == Answer::Shown && status(&got.answer) == 0);
-    assert!(rt; got.out.as_slice() == report.as_bytes());
-    assert!(rt; got.notes.is_empty());
+/// `trial` shows the report, and nothing else is written; `run` ends as the program does, with its output and the same
+/// report.
+fn check(
+    rt: &impl Abort,
+    alloc: Global,
+    words: &[u32],
+    budget: &str,
+    told: &Told<'_>,
+) -> Result<(), Fail> {
+    let trial = call_of(alloc, words, &["trial", "g"], budget)?;
+    assert!(rt; trial.answer == Answer::Shown && status(&trial.answer) == 0);
+    assert!(rt; trial.out.as_slice() == told.report.as_bytes());
+    assert!(rt; trial.notes.is_empty() && trial.told.as_slice().is_empty());
+    let run = call_of(alloc, words, &["run", "g", "--report"], budget)?;
+    assert!(rt; run.answer == told.answer);
+    assert!(rt; run.out.as_slice() == told.out);
+    let notes = format!(in alloc; "{}{}", told.report, told.line)?;
+    assert!(rt; run.notes.as_slice() == notes.as_bytes());
+    assert!(rt; run.told.as_slice().len() == 1);
     Ok(())
 }
 
@@ -60,11 +107,16 @@ fn check_parts(
 ) -> Result<(), Fail> {
     for (part, told, totals, path) in rows {
         let words = with_fast_part(alloc, part)?;
-        let got = trial_of(alloc, words.as_slice(), "1000")?;
         let report = format!(in alloc;
             "region 0 at 1 pc 00010004 original 36 {told}\nregions 1 {totals} alone 40 path {path}\nend exit 55\n"
         )?;
-        check(rt, &got, report.as_str())?;
+        check(
+            rt,
+            alloc,
+            words.as_slice(),
+            "1000",
+            &exits(55, report.as_str()),
+        )?;
     }
     Ok(())
 }
@@ -152,44 +204,93 @@ fn hostile_parts(rt: HostRuntime) -> Result<(), Fail> {
 fn a_tie(rt: HostRuntime) -> Result<(), Fail> {
     let mut words = SUM;
     words[2] = 0x0000_0013;
-    let got = trial_of(rt.alloc(), &words, "1000")?;
     check(
         &rt,
-        &got,
-        "region 0 at 1 pc 00010004 original 36 fast 36 kept\nregions 1 kept 1 differs 0 stopped 0 late 0 alone 40 path 40\nend exit 55\n",
+        rt.alloc(),
+        &words,
+        "1000",
+        &exits(
+            55,
+            "region 0 at 1 pc 00010004 original 36 fast 36 kept\nregions 1 kept 1 differs 0 stopped 0 late 0 alone 40 path 40\nend exit 55\n",
+        ),
     )
 }
 
+/// The program of two bytes, spent with this output.
+fn spent<'a>(out: &'a [u8], report: &'a str) -> Told<'a> {
+    Told {
+        answer: Answer::Spent,
+        out,
+        report,
+        line: "fasttrack: budget spent\n",
+    }
+}
+
 /// A region that closes exactly at the budget has a row, and one that would close one instruction past it has none.
+/// The output is cut at the budget.
 #[test]
 fn budgets(rt: HostRuntime) -> Result<(), Fail> {
-    let rows = [
-        (
-            "1000",
+    let whole = Told {
+        out: b"77",
+        ..exits(
+            0,
             "region 0 at 1 pc 00010004 original 36 fast 5 kept\nregions 1 kept 1 differs 0 stopped 0 late 0 alone 49 path 18\nend exit 0\n",
+        )
+    };
+    let rows = [
+        ("1000", whole),
+        ("49", whole),
+        (
+            "46",
+            spent(
+                b"77",
+                "region 0 at 1 pc 00010004 original 36 fast 5 kept\nregions 1 kept 1 differs 0 stopped 0 late 0 alone 46 path 15\nend spent\n",
+            ),
+        ),
+        (
+            "44",
+            spent(
+                b"7",
+                "region 0 at 1 pc 00010004 original 36 fast 5 kept\nregions 1 kept 1 differs 0 stopped 0 late 0 alone 44 path 13\nend spent\n",
+            ),
+        ),
+        (
+            "43",
+            spent(
+                b"",
+                "region 0 at 1 pc 00010004 original 36 fast 5 kept\nregions 1 kept 1 differs 0 stopped 0 late 0 alone 43 path 12\nend spent\n",
+            ),
         ),
         (
             "37",
-            "region 0 at 1 pc 00010004 original 36 fast 5 kept\nregions 1 kept 1 differs 0 stopped 0 late 0 alone 37 path 6\nend spent\n",
+            spent(
+                b"",
+                "region 0 at 1 pc 00010004 original 36 fast 5 kept\nregions 1 kept 1 differs 0 stopped 0 late 0 alone 37 path 6\nend spent\n",
+            ),
         ),
         (
             "36",
-            "regions 0 kept 0 differs 0 stopped 0 late 0 alone 36 path 36\nend spent\n",
+            spent(
+                b"",
+                "regions 0 kept 0 differs 0 stopped 0 late 0 alone 36 path 36\nend spent\n",
+            ),
         ),
         (
             "1",
-            "regions 0 kept 0 differs 0 stopped 0 late 0 alone 1 path 1\nend spent\n",
+            spent(
+                b"",
+                "regions 0 kept 0 differs 0 stopped 0 late 0 alone 1 path 1\nend spent\n",
+            ),
         ),
     ];
-    for (budget, report) in rows {
-        let got = trial_of(rt.alloc(), &SUM_TWICE, budget)?;
-        check(&rt, &got, report)?;
+    for (budget, told) in rows {
+        check(&rt, rt.alloc(), &SUM_TWICE, budget, &told)?;
     }
     Ok(())
 }
 
 /// An opening call inside a region opens none, a closing call outside of one does nothing, and a region that the program
-/// never closes has no row. What the guest writes to either stream is dropped, and a trap is told.
+/// never closes has no row. A trap is told.
 #[test]
 fn other_shapes(rt: HostRuntime) -> Result<(), Fail> {
     let opens_twice = [
@@ -221,40 +322,52 @@ fn other_shapes(rt: HostRuntime) -> Result<(), Fail> {
         0x0000_0073,
     ];
     let never_closes = [0x7D00_0893, 0x0000_0073, 0x05D0_0893, 0x0000_0073];
-    let rows: [(&[u32], &str); 6] = [
+    let trap = Told {
+        answer: Answer::Trapped(Trap::Illegal, 0x10004),
+        line: "fasttrack: trap illegal at 00010004\n",
+        ..exits(
+            0,
+            "regions 0 kept 0 differs 0 stopped 0 late 0 alone 2 path 2\nend trap illegal at 00010004\n",
+        )
+    };
+    let rows: [(&[u32], Told<'_>); 5] = [
         (
             &opens_twice,
-            "region 0 at 1 pc 00010004 original 4 fast 4 kept\nregions 1 kept 1 differs 0 stopped 0 late 0 alone 8 path 8\nend exit 0\n",
+            exits(
+                0,
+                "region 0 at 1 pc 00010004 original 4 fast 4 kept\nregions 1 kept 1 differs 0 stopped 0 late 0 alone 8 path 8\nend exit 0\n",
+            ),
         ),
         (
             &closes_twice,
-            "region 0 at 1 pc 00010004 original 3 fast 3 kept\nregions 1 kept 1 differs 0 stopped 0 late 0 alone 9 path 9\nend exit 0\n",
+            exits(
+                0,
+                "region 0 at 1 pc 00010004 original 3 fast 3 kept\nregions 1 kept 1 differs 0 stopped 0 late 0 alone 9 path 9\nend exit 0\n",
+            ),
         ),
         (
             &closes_only,
-            "regions 0 kept 0 differs 0 stopped 0 late 0 alone 5 path 5\nend exit 0\n",
+            exits(
+                0,
+                "regions 0 kept 0 differs 0 stopped 0 late 0 alone 5 path 5\nend exit 0\n",
+            ),
         ),
         (
             &never_closes,
-            "regions 0 kept 0 differs 0 stopped 0 late 0 alone 4 path 4\nend exit 0\n",
+            exits(
+                0,
+                "regions 0 kept 0 differs 0 stopped 0 late 0 alone 4 path 4\nend exit 0\n",
+            ),
         ),
-        (
-            &TWO_STREAMS,
-            "regions 0 kept 0 differs 0 stopped 0 late 0 alone 11 path 11\nend exit 0\n",
-        ),
-        (
-            &[0x02C5_C533],
-            "regions 0 kept 0 differs 0 stopped 0 late 0 alone 2 path 2\nend trap illegal at 00010004\n",
-        ),
+        (&[0x02C5_C533], trap),
     ];
-    for (words, report) in rows {
-        let got = trial_of(rt.alloc(), words, "1000")?;
-        check(&rt, &got, report)?;
+    for (words, told) in rows {
+        check(&rt, rt.alloc(), words, "1000", &told)?;
     }
     Ok(())
 }
 
-/// One region after the other, with every verdict that the generator makes.
+/// One region after the other, with every verdict that the generator makes. `trial` drops what the guest writes.
 #[test]
 fn many_regions(rt: HostRuntime) -> Result<(), Fail> {
     let image = generate(rt.alloc(), 1, 6)?;
@@ -265,18 +378,9 @@ fn many_regions(rt: HostRuntime) -> Result<(), Fail> {
             ..plain(image.as_slice(), b"")
         },
     )?;
-    check(
-        &rt,
-        &got,
-        "region 0 at 4 pc 00010010 original 30010 fast 7 kept\n\
-         region 1 at 30023 pc 0001006c original 30031 fast 7 differs register 10\n\
-         region 2 at 60063 pc 000100c8 original 30052 fast 30052 late\n\
-         region 3 at 90124 pc 00010118 original 30073 fast 7 kept\n\
-         region 4 at 120206 pc 00010174 original 30094 fast 7 kept\n\
-         region 5 at 150309 pc 000101d0 original 30115 fast 7 differs register 10\n\
-         regions 6 kept 3 differs 2 stopped 0 late 1 alone 180435 path 90279\n\
-         end exit 0\n",
-    )
+    assert!(rt; got.answer == Answer::Shown && got.notes.is_empty());
+    assert!(rt; got.out.as_slice() == MANY_REGIONS.as_bytes());
+    Ok(())
 }
 
 /// Where a line of the report can't be written, `out` has the lines before it.

@@ -75,6 +75,16 @@ own_count-none (e ∷ es) h =
     let first : one (is_own e.page) ≡ 0 = ap one (h 0 e (omega arith)) in
     omega (arith, sum_by-cons (λ (x : Entry). one (is_own x.page)) e es, first, own_count-none es (λ k d l. h (suc k) d (omega arith)))
 
+one-off : (b : Bool) → one b ≡ 0 → b ≡ false
+one-off false h = refl
+one-off true h = absurd (cc)
+
+-- where no page is counted as own, none is
+pub none_own-counted : (es : List Entry) → own_count es ≡ 0 → NoneOwn es
+none_own-counted [] z k d l = absurd (omega (arith, l))
+none_own-counted (e ∷ es) z zero d l = one-off (is_own e.page) (omega (arith, sum_by-cons (λ (x : Entry). one (is_own x.page)) e es))
+none_own-counted (e ∷ es) z (suc k) d l = none_own-counted es (omega (arith, sum_by-cons (λ (x : Entry). one (is_own x.page)) e es)) k d (omega (arith, l))
+
 -- one entry more is shared: y in the place of x, and z in the other image
 module _ (es : List Entry) (i : ℕ) (x y z : Entry) (within : i < length es) (at : x ≡ get_or es i x) (same : face y ≡ face x) (other : face z ≡ face x) where
   pub faces-set : map face (set es i y) ≡ map face es

@@ -45,35 +45,31 @@ no e = absurd (true≢false (sym e))
 abbrev IsWithin : ℕ → ℕ → Text → Type 0
 IsWithin low high text = IsNumeral 10 (without_leading_plus text) × (low ≤ number_of text) × (number_of text ≤ high)
 
-number_text : (low high : ℕ) (ic : Bool) (q : ValueParser) (t : Text) → is_within low high q ≡ true → Accepts ic q t → IsWithin low high t
-number_text low high ic (vp.Unsigned least most) t e h =
+range_is : (low high : ℕ) (q : ValueParser) → is_within low high q ≡ true
+    → (least : ℕ) × (most : ℕ) × (q ≡ vp.Unsigned least most) × (low ≤ least) × (most ≤ high)
+range_is low high (vp.Unsigned least most) e =
     let ends = both _ _ e in
-    let first : low ≤ least = leb-true _ _ ends.0 in
-    let last : most ≤ high = leb-true _ _ ends.1 in
-    (h.0, omega arith, omega arith)
-number_text low high ic vp.String t e h = no e
-number_text low high ic vp.NonEmptyString t e h = no e
-number_text low high ic vp.Bool t e h = no e
-number_text low high ic vp.Boolish t e h = no e
-number_text low high ic vp.Falsey t e h = no e
-number_text low high ic (vp.Signed a b) t e h = no e
-number_text low high ic vp.Float t e h = no e
-number_text low high ic vp.Char t e h = no e
-number_text low high ic (vp.Names names) t e h = no e
-number_text low high ic (vp.Values values) t e h = no e
+    (least, most, refl, leb-true _ _ ends.0, leb-true _ _ ends.1)
+range_is low high vp.String e = no e
+range_is low high vp.NonEmptyString e = no e
+range_is low high vp.Bool e = no e
+range_is low high vp.Boolish e = no e
+range_is low high vp.Falsey e = no e
+range_is low high (vp.Signed a b) e = no e
+range_is low high vp.Float e = no e
+range_is low high vp.Char e = no e
+range_is low high (vp.Names names) e = no e
+range_is low high (vp.Values values) e = no e
 
-number_read : (low high : ℕ) (q : ValueParser) → is_within low high q ≡ true → reading_of q ≡ reading.AsWritten
-number_read low high (vp.Unsigned least most) e = refl
-number_read low high vp.String e = no e
-number_read low high vp.NonEmptyString e = no e
-number_read low high vp.Bool e = no e
-number_read low high vp.Boolish e = no e
-number_read low high vp.Falsey e = no e
-number_read low high (vp.Signed a b) e = no e
-number_read low high vp.Float e = no e
-number_read low high vp.Char e = no e
-number_read low high (vp.Names names) e = no e
-number_read low high (vp.Values values) e = no e
+number_text : (low high : ℕ) (ic : Bool) (q : ValueParser) (t : Text) → is_within low high q ≡ true → Accepts ic q t → IsWithin low high t
+number_text low high ic q t e h =
+    let range = range_is low high q e in
+    let passed : Accepts ic (vp.Unsigned range.0 range.1) t = subst (λ (w : ValueParser). Accepts ic w t) range.2 h in
+    (passed.0, omega arith, omega arith)
+
+in_range : (low high at number : ℕ) → at ≡ number → high < 2 ^ 64 → (low ≤ number) × (number ≤ high)
+    → (number < 2 ^ 64) × (low ≤ at) × (at ≤ high)
+in_range low high at number same fits within = (omega arith, omega arith, omega arith)
 
 abbrev IsSwitch : Text → Type 0
 IsSwitch t = (t ≡ codes "true") ⊎ (t ≡ codes "false")
@@ -155,6 +151,7 @@ module _ (names : HeldTexts) (c : Command) (is : IsCommand names c) where
 
   module _ (f : Found) (used : Bool) (parsed : IsParsed c f used) where
     module _ (id : Text) (named : id ≡ [] → ⊥) where
+      -- an option has its number, in its range
       number_there : (low high : ℕ) → high < 2 ^ 64 → has_number id low high (command_with names) ≡ true → has_number id low high (built (command_with names)) ≡ true
           → HasNumber f id × (low ≤ number_at id (rows_of f)) × (number_at id (rows_of f) ≤ high)
       number_there low high fits before after =
@@ -162,15 +159,17 @@ module _ (names : HeldTexts) (c : Command) (is : IsCommand names c) where
           let has = default_given c f id no_groups named (good_number low high) there.0 parsed.values parsed.defaults (λ a g. (both _ _ g).0) there.1 in
           let got = first_passes c f id no_groups named (good_number low high) there.0 (IsWithin low high) reading.AsWritten parsed.values
           (λ a g v h. number_text low high a.ignore_case (parser_of a) v (both _ _ g).1 h)
-          (λ a g. number_read low high (parser_of a) (both _ _ g).1) has.0 has.1 in
-          let same : number_at id (rows_of f) ≡ number_of has.0 = ap number_of (value_is f id has.0 has.1) in
-          ((has.0, has.1, got.1, got.0.0, omega arith), omega arith, omega arith)
+          (λ a g. ap reading_of (range_is low high (parser_of a) (both _ _ g).1).2) has.0 has.1 in
+          let range = in_range low high _ _ (ap number_of (value_is f id has.0 has.1)) fits (got.0.1, got.0.2) in
+          ((has.0, has.1, got.1, got.0.0, range.0), range.1, range.2)
 
+      -- a positional that is given has its text
       text_there : has_text id (command_with names) ≡ true → has_text id (built (command_with names)) ≡ true → is_given id (rows_of f) ≡ true → HasText f id
       text_there before after given =
           entry_given c f id no_groups named takes_value (by_app (λ a. has_text id a ≡ true) names c is before after) parsed.values (λ a g. g)
           (present_has_entry f id (present_row f id ∙ given))
 
+      -- a flag has one of its two values
       flag_there : has_flag id (command_with names) ≡ true → has_flag id (built (command_with names)) ≡ true → HasFlag f id
       flag_there before after t has =
           let got = first_passes c f id no_groups named good_flag (by_app (λ a. has_flag id a ≡ true) names c is before after) IsSwitch reading.AsWritten parsed.values

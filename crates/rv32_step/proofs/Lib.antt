@@ -1,2 +1,3 @@
 pub mod FastSteps
+pub mod RegisterSteps
 mod ServiceSteps

@@ -1,3 +1,4 @@
 pub mod FastStep
 pub mod Moves
 pub mod Steps
+pub mod RegisterSteps

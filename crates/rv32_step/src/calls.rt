@@ -12,12 +12,15 @@ const ECALL: u32 = 0x0000_0073;
 /// The register a7, which has a service's number.
 const A7: u8 = 17;
 
-const FAST_TRACK: u32 = 2000;
+/// The number of FastTrack, the call that opens a dual region.
+pub const FAST_TRACK: u32 = 2000;
 
-const END_DUAL_TRACK: u32 = 2001;
+/// The number of EndDualTrack, the call that closes a dual region.
+pub const END_DUAL_TRACK: u32 = 2001;
 
+/// The state is at the call of this number: the word at pc is ECALL, and a7 is the number.
 #[inline]
-fn at_call<M: Memory>(number: u32, state: &State<M>) -> bool
+pub fn at_call<M: Memory>(number: u32, state: &State<M>) -> bool
     ensures { result ≡ at_call number (flat M.bytes state.now) }
 {
     if state.regs.get(A7) != number {

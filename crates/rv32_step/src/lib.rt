@@ -5,10 +5,12 @@ mod arithmetic;
 mod calls;
 mod effects;
 mod laws;
+mod on_registers;
 mod one_step;
 mod stepped;
 
-pub use calls::{at_end, at_fast};
+pub use calls::{END_DUAL_TRACK, FAST_TRACK, at_call, at_end, at_fast};
 pub use laws::fast_step_law;
-pub use one_step::step;
+pub use on_registers::{RegisterStep, step_registers};
+pub use one_step::{step, step_other};
 pub use stepped::Stepped;

@@ -7,14 +7,14 @@ ghost use Rattle.guest_model.specs.InstructionTable.{FieldsFit};
 ghost use Rattle.guest_model.specs.Effect.{effect, store_effect};
 ghost use Rattle.guest_model.specs.Service.{service};
 ghost use Rattle.guest_model.specs.Step.{step, step_instr, after_effect};
-ghost use Rattle.rv32_step.specs.Moves.{ChangesRegisters};
+ghost use Rattle.rv32_step.specs.RegisterSteps.{IsOther};
 ghost use Rattle.rv32_step.specs.Steps.{Steps};
 
-use crate::effects::{address, advance, change_registers, finish, store_bytes};
+use crate::effects::{address, advance, finish, store_bytes};
+use crate::on_registers::{RegisterStep, step_registers};
 use crate::stepped::Stepped;
 use guest_calls::{Served, serve};
 use guest_model::{End, Instr, Memory, State, StoreFault, StoreWidth, Trap};
-use rv32_decode::decode;
 
 /// The register a0: the first argument of a service, and its answer.
 const A0: u8 = 10;
@@ -93,27 +93,18 @@ fn store<M: Memory>(width: StoreWidth, at: u32, value: u32, state: &mut State<M>
     }
 }
 
+/// Carries out a store or ECALL, which stands at pc, as `step` does.
 #[inline(always)]
-fn on_registers<M: Memory>(instr: Instr, state: &mut State<M>) -> Stepped
-    requires fit { FieldsFit instr }
-    requires registers { ChangesRegisters instr }
-    ensures means { let old = flat M.bytes state.old in
-        let want = after_effect state.old.regs.pc (effect instr old) in
-        Steps M.REFUSES want old (flat M.bytes state.new) result }
-    ensures rest { state.new ≡ record state.old { regs = state.new.regs } }
-{
-    match change_registers(instr, &mut state.regs, &state.memory) {
-        Ok(()) => Stepped::Next,
-        Err(trap) => Stepped::Ends(End::Trap(trap, state.regs.pc())),
-    }
-}
-
-#[inline(always)]
-fn execute<M: Memory>(instr: Instr, state: &mut State<M>, input: &[u8], fast: bool) -> Stepped
-    requires fit { FieldsFit instr }
+pub fn step_other<M: Memory>(
+    instr: Instr,
+    state: &mut State<M>,
+    input: &[u8],
+    fast: bool,
+) -> Stepped
     requires place { state.old.place ≤ length input.now }
+    requires here { IsOther (flat M.bytes state.old) instr }
     ensures means { let old = flat M.bytes state.old in
-        Steps M.REFUSES (step_instr fast input.now old instr) old (flat M.bytes state.new) result }
+        Steps M.REFUSES (step fast input.now old) old (flat M.bytes state.new) result }
     ensures place { state.new.place ≤ length input.now }
     ensures kept { let old = state.old.memory in let new = state.new.memory in
         Keeps (M.written old) (M.bytes old) (M.written new) (M.bytes new) }
@@ -130,7 +121,7 @@ fn execute<M: Memory>(instr: Instr, state: &mut State<M>, input: &[u8], fast: bo
             let value = state.regs.get(rs2);
             store(width, at, value, state)
         }
-        _ => on_registers(instr, state),
+        _ => unreachable!(),
     }
 }
 
@@ -153,10 +144,11 @@ pub fn step<M: Memory>(state: &mut State<M>, input: &[u8], fast: bool) -> Steppe
     let Some(word) = state.memory.load32(pc) else {
         return Stepped::Ends(End::Trap(Trap::FetchUnmapped, pc));
     };
-    let Some(instr) = decode(word) else {
-        return Stepped::Ends(End::Trap(Trap::Illegal, pc));
-    };
-    execute(instr, state, input, fast)
+    match step_registers(word, &mut state.regs, &state.memory) {
+        RegisterStep::Next => Stepped::Next,
+        RegisterStep::Ends(end) => Stepped::Ends(end),
+        RegisterStep::Other(instr) => step_other(instr, state, input, fast),
+    }
 }
 
 #[cfg(test)]

@@ -1,6 +1,7 @@
 pub mod OnComparison
 pub mod OnPages
 pub mod OnProgress
+pub mod OnQuiet
 pub mod OnRunCalls
 pub mod OnRuns
 pub mod OnStarts

@@ -9,11 +9,16 @@ use Rattle.rv32_law.specs.GuestStates.{SharesLayout}
 use Rattle.paged_image.specs.WriteSet.{has}
 use Rattle.paged_image.specs.Image.{content, written_of}
 use Rattle.paged_image.specs.declared.image.PagedImage.{PagedImage}
+use Rattle.track_state.specs.declared.start.Start.{Start}
 use Rattle.page_compare.specs.Comparison.{AgreeOutside}
 
 -- the machine state that a state over pages stands for
 abbrev pub flat_state : State PagedImage → MachineState
 flat_state s = flat content s
+
+-- the machine state in which a track started
+abbrev pub flat_start : Start → MachineState
+flat_start s = flat content (record { regs = s.regs; memory = s.memory.value; place = s.place; heap = s.heap })
 
 -- Outside of the pages that were written, memory is as it was at the start, and the layout is that of the start.
 pub record KeepsStart (start : MachineState) (s : State PagedImage) : Type 0 where

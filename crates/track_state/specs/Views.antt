@@ -12,7 +12,7 @@ use Rattle.paged_image.specs.declared.image.PagedImage.{PagedImage}
 use Rattle.track_state.specs.declared.stop.Stop.{Stop}
 use Rattle.track_state.specs.declared.stop.Stop.TheVariants.{Boundary, Ended, Budget}
 use Rattle.track_state.specs.declared.track.Track.{Track}
-use Rattle.track_state.specs.Kept.{flat_state, KeepsStart, StartsAtCall}
+use Rattle.track_state.specs.Kept.{flat_state, flat_start, KeepsStart, StartsAtCall}
 
 -- A track without its pages: its kind, the state in which it started, the state in which it is, the instructions that it
 -- has taken, the pieces that it holds, the end that it met, and how many instructions it may take in all.
@@ -28,7 +28,7 @@ pub record TrackView : Type 0 where
 unfoldable pub view_of : Track → TrackView
 view_of t = record {
   kind = t.kind;
-  start = flat_state t.start.value;
+  start = flat_start t.start;
   state = flat_state t.state;
   own = t.own;
   held = t.held;

@@ -7,12 +7,15 @@
 mod comparison;
 pub mod laws;
 mod progress;
+mod quiet;
+mod start;
 mod stop;
 mod track;
 
 pub use comparison::same;
 pub use held_output::Held;
 pub use speculation::Kind;
+pub use start::Start;
 pub use stop::Stop;
 pub use track::{Crossed, Forked, Track, TrackState};
 

@@ -1,20 +1,25 @@
 //! The loop over instructions.
 
-ghost use Rattle.std.specs.Prelude.{◌≡◌, ℕ, ◌+◌, ◌^◌, ◌<◌, ◌≤◌, ◌⊎◌, [], ◌∷◌, ◌++◌, length, IsTrue, IfOk, OnErr, nat_le};
+ghost use Rattle.std.specs.Prelude.{◌≡◌, ℕ, true, false, ◌+◌, ◌^◌, ◌<◌, ◌≤◌, ◌⊎◌, [], ◌∷◌, ◌++◌, length, IsTrue, IfSome, IfOk, OnErr, nat_le};
 ghost use Rattle.std.specs.List.{All};
 ghost use Rattle.speculation.specs.Run.{Piece};
 ghost use Rattle.speculation.specs.Core.{held_size, most_held};
 ghost use Rattle.guest_model.specs.ByteMap.{mapped, bytes_from};
 ghost use Rattle.guest_model.specs.Registers.{IsRegFile};
+ghost use Rattle.guest_model.specs.MachineState.{MachineState};
+ghost use Rattle.guest_model.specs.Step.{step, at_call};
+ghost use Rattle.rv32_step.specs.RegisterSteps.{IsOther};
+ghost use Rattle.rv32_step.specs.Steps.{Steps};
 ghost use Rattle.paged_image.specs.Image.{content};
 ghost use Rattle.track_state.specs.Kept.{flat_state};
 ghost use Rattle.track_state.specs.Progress.{halts, held_piece, undone, IsProgress, KeepsPages};
 
+use crate::quiet::run_registers;
 use crate::track::TrackState;
 use basic_types::NoMemory;
-use guest_model::{End, Regs};
+use guest_model::{End, Instr, Regs};
 use held_output::Held;
-use rv32_step::{Stepped, at_end, at_fast, step};
+use rv32_step::{END_DUAL_TRACK, FAST_TRACK, Stepped, at_call, step, step_other};
 use speculation::Kind;
 
 /// A track that holds so many bytes is run no further.
@@ -55,12 +60,19 @@ pub fn advance(
     ensures place { state.new.place ≤ length input.now }
     ensures kept { KeepsPages state.old.memory state.new.memory }
 {
-    for taken in 0..limit {
+    let call = boundary_call(kind);
+    let mut taken = 0;
+    'parts: while taken < limit {
+        let quiet = run_registers(state, limit - taken);
+        taken += quiet.taken;
+        if taken == limit {
+            return Progress::paused(limit, None, false);
+        }
         let _pc = state.regs.pc();
-        if halts(kind, state) {
+        if at_call(call, state) {
             return Progress::paused(taken, None, false);
         }
-        match step(state, input, false) {
+        match take(quiet.next, state, input) {
             Stepped::Next => {}
             Stepped::Wrote { stream, at, count } => {
                 match hold(kind, own + taken + 1, stream, at, count, state, held) {
@@ -72,6 +84,7 @@ pub fn advance(
             Stepped::Ends(end) => return Progress::paused(taken + 1, Some(end), false),
             Stepped::NoMemory => return Progress::paused(taken, None, true),
         }
+        taken += 1;
     }
     Progress::paused(limit, None, false)
 }
@@ -89,14 +102,42 @@ impl Progress {
     }
 }
 
+/// The number of the call at which a track of this kind halts.
 #[inline]
-fn halts(kind: Kind, state: &TrackState) -> bool
-    ensures { result ≡ halts kind (flat_state state.now) }
+#[tactic(auto, unfolding(guest_model::specs::Step::at_fast, guest_model::specs::Step::at_end))]
+fn boundary_call(kind: Kind) -> u32
+    ensures { (s : MachineState) → halts kind s ≡ at_call result s }
 {
     match kind {
-        Kind::Segment => at_fast(state),
-        Kind::Normal | Kind::Fast => at_end(state),
+        Kind::Segment => FAST_TRACK,
+        Kind::Normal | Kind::Fast => END_DUAL_TRACK,
     }
+}
+
+/// Takes the instruction at pc, which is `next` where that is known.
+#[inline(always)]
+fn take(next: Option<Instr>, state: &mut TrackState, input: &[u8]) -> Stepped
+    requires place { state.old.place ≤ length input.now }
+    requires next { IfSome next (λ i. IsOther (flat_state state.old) i) }
+    ensures means { let old = flat_state state.old in Steps true (step false input.now old) old (flat_state state.new) result }
+    ensures place { state.new.place ≤ length input.now }
+    ensures kept { KeepsPages state.old.memory state.new.memory }
+{
+    match next {
+        Some(instr) => step_other(instr, state, input, false),
+        None => take_any(state, input),
+    }
+}
+
+/// Takes the instruction at pc. Apart from `take`, so that the loop over instructions stays short.
+#[inline(never)]
+fn take_any(state: &mut TrackState, input: &[u8]) -> Stepped
+    requires { state.old.place ≤ length input.now }
+    ensures means { let old = flat_state state.old in Steps true (step false input.now old) old (flat_state state.new) result }
+    ensures place { state.new.place ≤ length input.now }
+    ensures kept { KeepsPages state.old.memory state.new.memory }
+{
+    step(state, input, false)
 }
 
 /// Holds back what the instruction of this number wrote, unless the track is a fast version. Answers whether as many

@@ -1,8 +1,9 @@
 //! Tracks.
 
 ghost use Rattle.std.specs.Prelude.{◌≤◌};
-ghost use Rattle.track_state.specs.Kept.{flat_state, KeepsStart, StartsAtCall};
+ghost use Rattle.track_state.specs.Kept.{flat_state, flat_start, KeepsStart, StartsAtCall};
 
+use crate::start::Start;
 use crate::stop::Stop;
 use basic_types::NoMemory;
 use guest_model::{End, State};
@@ -11,12 +12,12 @@ use paged_image::PagedImage;
 use rv32_step::{at_end, at_fast};
 use speculation::Kind;
 use std::alloc::Global;
-use std::sync::Arc;
 
 mod run;
 mod snapshots;
 mod transitions;
 
+use snapshots::share_pages;
 pub use transitions::{Crossed, Forked};
 
 /// A machine state over pages.
@@ -30,15 +31,15 @@ pub type TrackState = State<PagedImage>;
 pub struct Track {
     alloc: Global,
     kind: Kind,
-    start: Arc<TrackState>,
+    start: Start,
     state: TrackState,
     own: u64,
     held: Held,
     end: Option<End>,
     budget: u64,
     ghost within: { own ≤ budget },
-    ghost call: { StartsAtCall kind (flat_state start.value) },
-    ghost kept: { KeepsStart (flat_state start.value) state },
+    ghost call: { StartsAtCall kind (flat_start start) },
+    ghost kept: { KeepsStart (flat_start start) state },
 }
 
 impl Track {
@@ -67,16 +68,8 @@ impl Track {
         ensures pages { IfOk result (λ t. HasWrittenNothing t) }
     {
         let mut state = start;
-        let memory = state.memory.snapshot()?;
-        let start = Arc::new(
-            alloc,
-            State {
-                regs: state.regs,
-                memory,
-                place: state.place,
-                heap: state.heap,
-            },
-        )?;
+        let start = Start::at(&state);
+        share_pages(&mut state)?;
         Ok(Track {
             alloc,
             kind,
@@ -98,8 +91,8 @@ impl Track {
 
     /// The state in which the track started.
     #[tactic(auto, unfolding(crate::specs::Views::view_of))]
-    pub fn start(&self) -> &TrackState
-        ensures { flat_state result.now ≡ (view_of self.now).start }
+    pub fn start(&self) -> &Start
+        ensures { flat_start result.now ≡ (view_of self.now).start }
     {
         &self.start
     }

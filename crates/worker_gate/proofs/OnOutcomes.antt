@@ -1,6 +1,5 @@
 -- What the sinks got, and what came of a board, when its rounds are over.
-use Rattle.std.proofs.Common.{◌≡◌, ℕ, ◌+◌, true, if◌then◌else◌, Bool, false, List, [], ◌∷◌, ◌++◌, length, Option, Some, None, option_map, refl, sym, ap, ◌∙◌, subst, append_assoc, append-nil, arith}
-use Rattle.speculation.specs.declared.history.Entry.{Entry}
+use Rattle.std.proofs.Common.{◌≡◌, ◌≢◌, ◌+◌, ◌<◌, inl, inr, true, if◌then◌else◌, Bool, false, List, [], ◌++◌, length, Option, Some, None, refl, sym, ap, ◌∙◌, subst, append_assoc, append-nil, arith}
 use Rattle.speculation.specs.declared.history.Entry.TheVariants as E
 use Rattle.speculation.specs.Run.{Mark}
 use Rattle.speculation.specs.Record.{output_of}
@@ -8,7 +7,6 @@ use Rattle.speculation.specs.Core.{Finished as CoreFinished, opening, over}
 use Rattle.speculation.specs.Events.{core_run}
 use Rattle.speculation.specs.Law.{IsComplete}
 use Rattle.speculation.specs.Serial.{serial}
-use Rattle.guest_model.specs.MachineState.{MachineState}
 use Rattle.guest_model.specs.declared.end.End.{End}
 use Rattle.guest_model.specs.declared.end.End.TheVariants.{Exit, Trap, Spent}
 use Rattle.speculation_law.proofs.Histories.{law-partial, law-complete}
@@ -23,12 +21,12 @@ use Rattle.guest_streams.proofs.OnStreams.{GetsAll-nothing, GetsAll-more, StopsS
 use Rattle.track_board.specs.declared.outcome.Outcome.{Outcome}
 use Rattle.track_board.specs.Value.{Posted, GuestCore, IsKnown, machine_of, start_state, core_of, posted}
 use Rattle.track_board.specs.Settles.{verified_of, finish_of, IsOutcome}
-use Rattle.track_board.specs.Others.{extended}
 use Rattle.track_board.proofs.Foundation.{core-legal}
-use Rattle.worker_gate.specs.Conducting.{alone_of, IsSameRun, released_total, IsWhole, Conducts}
-use Rattle.worker_gate.specs.Rounds.{IsUnderway, GoesOn, IsAtEnd, BreaksOff, Breaks, answer_to}
+use Rattle.track_board.proofs.Settling.{weight_of}
+use Rattle.worker_gate.specs.Conducting.{alone_of, IsSameRun, IsWhole, Conducts}
+use Rattle.worker_gate.specs.Rounds.{TakesVerified, SettlesSome, CanLend, RunsSlice, SliceFails, IsUnderway, GoesBy, GoesOn, IsAtEnd, BreaksOff, Breaks, IsRound, answer_to}
 use Rattle.worker_gate.proofs.Releases.{total-run}
-use Rattle.worker_gate.proofs.OnRounds.{exact-of, sound-of, Extends, solo-of, by-extends, by-more, TakenRounds}
+use Rattle.worker_gate.proofs.OnRounds.{exact-of, sound-of, Extends, extends-more, ExtendsQuietly, quietly, quiet-released, extends-none, settles-quiet, slice-next, solo-of, by-carries, by-extends, by-known, by-more, at-end, can-lend, TakenRounds, taken-rounds, slice-quiet, given_up-quiet}
 
 -- ---- one run
 
@@ -78,7 +76,7 @@ on-more u v w s t x a b = record {
 }
 
 -- the verified bytes were taken, and the sinks got them
-pub on-taken : (v w : Posted) (s t : Sinks) (bytes : List Mark) → TakenRounds v w bytes → GetsAll s t bytes → GoesOn v w s t
+abbrev pub on-taken : (v w : Posted) (s t : Sinks) (bytes : List Mark) → TakenRounds v w bytes → GetsAll s t bytes → GoesOn v w s t
 on-taken v w s t bytes h written = record { count = h.count; by = h.by; underway = h.carries.underway; bytes = bytes; released = h.released; written = written }
 
 -- ---- how they break off
@@ -193,6 +191,85 @@ module _ (u w : Posted) (s t : Sinks) (o : Outcome) (fresh : u.entries ≡ []) (
         },
         subst (GetsAll s t) (bytes ∙ whole) on.written,
       )
-  
-  pub on-same : IsSameRun u w
-  on-same = extends-same u w (by-extends on.count u w on.by)
+
+-- ---- one round
+
+module _ (v w : Posted) (bytes : List Mark) (taken : TakesVerified v w bytes) (known : IsKnown w) (underway : IsUnderway v) where
+  rounds : TakenRounds v w bytes
+  rounds = taken-rounds v w bytes taken known underway
+
+  module _ (s t : Sinks) where
+    -- a sink failed
+    pub round-unwritten : StopsShort s t bytes → Breaks v w s t Write
+    round-unwritten h = breaks-write v w s t bytes (extends-same v w rounds.carries.extends) known rounds.released h
+
+    -- the board is over then
+    pub round-last : GetsAll s t bytes → over (core_of w) ≡ true → GoesOn v w s t × IsAtEnd w
+    round-last h is_over = (on-taken v w s t bytes rounds h, at-end w is_over rounds.none)
+
+    -- something was released
+    pub round-released : GetsAll s t bytes → bytes ≢ [] → (on : GoesOn v w s t) × (0 < on.count)
+    round-released h some = (on-taken v w s t bytes rounds h, rounds.some some)
+
+  module _ (nothing : bytes ≡ []) where
+    -- nothing was, and the board is not over
+    pub round-can_lend : over (core_of w) ≡ false → CanLend w
+    round-can_lend live = can-lend w known rounds.carries.underway (rounds.undue nothing) rounds.none live
+
+    module _ (x : Posted) (s t : Sinks) (written : GetsAll s t bytes) where
+      pub round-slice : RunsSlice w x → (on : GoesOn v x s t) × (0 < on.count)
+      round-slice h =
+          let next : GoesBy 1 w x = (w, refl, slice-next w x (rounds.undue nothing) rounds.none h) in
+          let after = by-carries 1 w x next known rounds.carries.underway in (
+            record {
+              count = rounds.count + 1;
+              by = by-more rounds.count 1 v w x rounds.by next;
+              underway = after.underway;
+              bytes = bytes;
+              released = quiet-released w x (slice-quiet w x h) after.known ∙ rounds.released;
+              written = written;
+            },
+            omega arith,
+          )
+
+      fails-quiet : SliceFails w x → ExtendsQuietly w x
+      fails-quiet (inl h) = extends-none w x h
+      fails-quiet (inr h) = given_up-quiet w x h
+
+      pub round-fails : SliceFails w x → IsKnown x → Breaks v x s t NoMemory
+      round-fails h after =
+          let quiet = fails-quiet h in
+          breaks-no_memory v x s t bytes (extends-same v x (extends-more v w x rounds.carries.extends (quietly w x quiet))) after (quiet-released w x quiet after ∙ rounds.released) written
+
+-- there was no memory for what is due, or for the verified bytes
+pub round-untaken : (v w : Posted) (s : Sinks) → SettlesSome v w → IsKnown w → Breaks v w s s NoMemory
+round-untaken v w s h known =
+    let quiet = settles-quiet h.0 v w h.1 in
+    breaks-no_memory v w s s [] (extends-same v w (quietly v w quiet)) known (quiet-released v w quiet known ∙ sym (append-nil (core_of v).released)) (GetsAll-nothing s)
+
+-- ---- all rounds
+
+module _ (u v w : Posted) (s t x : Sinks) (on : GoesOn u v s t) (more : Bool) (round : IsRound v w t x more) (known : IsKnown w) where
+  further : (b : Bool) → more ≡ b → IsRound v w t x b
+  further b is = subst (IsRound v w t x) is round
+
+  -- another round follows
+  pub rounds-fall : more ≡ true → weight_of w < weight_of v
+  rounds-fall is =
+      let next = further true is in
+      let carried = by-carries next.0.count v w next.0.by (by-known next.0.count v w next.0.by known) on.underway in
+      let falls = carried.falls in
+      let some = next.1 in
+      omega arith
+
+  pub rounds-on : more ≡ true → GoesOn u w s x
+  rounds-on is = on-more u v w s t x on (further true is).0
+
+  -- it was the last one
+  pub rounds-end : more ≡ false → GoesOn u w s x × IsAtEnd w
+  rounds-end is = (on-more u v w s t x on (further false is).0, (further false is).1)
+
+  pub rounds-refused : more ≡ false → Breaks u w s x NoMemory
+  rounds-refused is =
+      let all = (rounds-end is).0 in
+      breaks-no_memory u w s x all.bytes (extends-same u w (by-extends all.count u w all.by)) known all.released all.written

@@ -1,5 +1,5 @@
 -- The rounds of a conductor: each step of them goes on with the serial history.
-use Rattle.std.proofs.Common.{◌≡◌, ◌≢◌, ℕ, zero, suc, ◌+◌, ◌-◌, ◌<◌, ◌≤◌, Bool, true, false, not, ◌&&◌, ◌||◌, if◌then◌else◌, List, [], ◌∷◌, ◌++◌, length, Option, Some, None, is_some, Result, Ok, Err, nat_lt, ◌⊎◌, inl, inr, refl, sym, ap, ap₂, ◌∙◌, subst, append_assoc, append-nil, add-zero, add-suc, lt-ltb, arith}
+use Rattle.std.proofs.Common.{◌≡◌, ◌≢◌, ℕ, zero, suc, ◌+◌, ◌-◌, ◌<◌, ◌≤◌, Bool, true, false, not, ◌&&◌, ◌||◌, if◌then◌else◌, List, [], ◌∷◌, ◌++◌, length, Option, Some, None, is_some, Result, Ok, Err, nat_lt, refl, sym, ap, ◌∙◌, subst, append_assoc, append-nil, add-zero, add-suc, lt-ltb, arith}
 use Rattle.std.specs.Prelude.{MatchResult}
 use Rattle.speculation.specs.declared.tracks.Name.{Name}
 use Rattle.speculation.specs.declared.history.Settings.{Settings}
@@ -11,7 +11,7 @@ use Rattle.speculation.specs.Core.{Core, Region, opening, over, lead_name, norma
 use Rattle.speculation.specs.Due.{Due, Finishing, Crossing, Judging, Forking, finish_test, cross_test, verdict_due, fork_test, choose, due}
 use Rattle.speculation.specs.Events.{is_ready, lendable, released_by, released_core, event, core_run}
 use Rattle.speculation.specs.Law.{Exact}
-use Rattle.speculation.specs.Serial.{row_entry, entry_of, slice_of, serial_by, serial_next, first_lendable}
+use Rattle.speculation.specs.Serial.{row_entry, entry_of, serial_by, serial_next, first_lendable}
 use Rattle.speculation.specs.Verdicts.{is_kept}
 use Rattle.guest_model.specs.MachineState.{MachineState}
 use Rattle.guest_model.specs.declared.difference.Difference.{Difference}

@@ -1,15 +1,11 @@
 -- A track that is lent, run by one slice and taken back.
-use Rattle.std.proofs.Common.{◌≡◌, ℕ, true, false, List, [], ◌∷◌, ◌++◌, Option, Some, None, refl, sym, ap, ap₂, ◌∙◌, subst}
+use Rattle.std.proofs.Common.{◌≡◌, false, [], ◌∷◌, Some, None, sym, ap, ap₂, ◌∙◌, subst}
 use Rattle.std.proofs.lemmas.Option.{same_Some}
 use Rattle.speculation.specs.declared.tracks.Name.{Name}
 use Rattle.speculation.specs.declared.tracks.OpenLoan.{OpenLoan}
-use Rattle.speculation.specs.declared.history.Entry.{Entry}
 use Rattle.speculation.specs.declared.history.Entry.TheVariants as E
 use Rattle.speculation.specs.Core.{over, find_loan, find_track}
 use Rattle.speculation.specs.Serial.{slice_of}
-use Rattle.guest_model.specs.MachineState.{MachineState}
-use Rattle.guest_model.specs.declared.difference.Difference.{Difference}
-use Rattle.guest_model.specs.declared.end.End.{End}
 use Rattle.speculation_law.proofs.FindLoan.{find_loan-new}
 use Rattle.speculation_law.proofs.Names.{home-lent}
 use Rattle.speculation_law.proofs.Naming.{find_loan-home}
@@ -21,9 +17,8 @@ use Rattle.track_board.specs.declared.loan.Back.{Back}
 use Rattle.track_board.specs.declared.loan.Back.TheVariants.{Taken}
 use Rattle.track_board.specs.Value.{Posted, GuestCore, IsKnown, machine_of, core_of, posted}
 use Rattle.track_board.specs.Loans.{oldest_lendable, IsLent, IsReturned, back_by, back_entry}
-use Rattle.track_board.specs.Others.{extended}
 use Rattle.track_board.proofs.Foundation.{posted-core}
-use Rattle.worker_gate.specs.Rounds.{slice_entries, RunsSlice, GivesUp}
+use Rattle.worker_gate.specs.Rounds.{RunsSlice}
 use Rattle.worker_gate.proofs.OnRounds.{sound-of, extends-known, extended-twice}
 
 module _ (v w : Posted) (loan : Loan) (known : IsKnown w) (lent : IsLent v w 0 loan) where
@@ -48,7 +43,7 @@ module _ (v w : Posted) (loan : Loan) (known : IsKnown w) (lent : IsLent v w 0 l
       let new : OpenLoan = record { seat = 0; name = loan.name; dropped = None } in
       ap (λ (c : GuestCore). find_loan loan.name c.loans) core-lent
       ∙ find_loan-new (core_of v).loans new
-        (find_loan-home (core_of v) loan.name (sound-of v before).named (can.track, can.is.found) (home-lent (core_of v) loan.name can.is.home))
+      (find_loan-home (core_of v) loan.name (sound-of v before).named (can.track, can.is.found) (home-lent (core_of v) loan.name can.is.home))
 
   -- so it took its place again
   back-taken : (x : Posted) (r : Back) → IsReturned w x loan.name r → r ≡ Taken
@@ -72,13 +67,6 @@ module _ (v w : Posted) (loan : Loan) (known : IsKnown w) (lent : IsLent v w 0 l
     now = extended-twice v w x (E.Lend 0 loan.name ∷ []) (E.Back loan.name (slice_of (machine_of v) v.settings (find_track (core_of v) loan.name)) ∷ []) lent.entry (back-entry x r h);
   }
 
-  slice-given_up : (x : Posted) → oldest_lendable v ≡ Some loan.name → x ≡ posted w (E.Gone loan.name) → GivesUp v x
-  slice-given_up x oldest h = record { name = loan.name; oldest = oldest; now = extended-twice v w x (E.Lend 0 loan.name ∷ []) (E.Gone loan.name ∷ []) lent.entry h }
-
 -- one slice of the oldest lendable track
 pub slice-taken : (v w x : Posted) (loan : Loan) (name : Name) (r : Back) → name ≡ loan.name → IsKnown w → IsLent v w 0 loan → oldest_lendable v ≡ Some loan.name → IsReturned w x name r → RunsSlice v x
 slice-taken v w x loan name r same known lent oldest h = slice-run v w loan known lent x r oldest (subst (λ (n : Name). IsReturned w x n r) same h)
-
--- or it was given up
-pub slice-lost : (v w x : Posted) (loan : Loan) (name : Name) → name ≡ loan.name → IsKnown w → IsLent v w 0 loan → oldest_lendable v ≡ Some loan.name → x ≡ posted w (E.Gone name) → GivesUp v x
-slice-lost v w x loan name same known lent oldest h = slice-given_up v w loan known lent x oldest (h ∙ ap (λ (n : Name). posted w (E.Gone n)) same)

@@ -3,7 +3,7 @@ use Rattle.std.proofs.Common.{◌≡◌, ℕ, ◌+◌, ◌-◌, Bool, true, fals
 use Rattle.speculation.specs.declared.tracks.Name.{Name}
 use Rattle.speculation.specs.declared.history.Settings.{Settings}
 use Rattle.speculation.specs.declared.history.Entry.{Entry}
-use Rattle.speculation.specs.declared.history.Entry.TheVariants.{Lend, Back, Gone, Fork, Cross, Keep, Discard, Release, Finish, Halt}
+use Rattle.speculation.specs.declared.history.Entry.TheVariants.{Lend, Back, Gone, Release, Halt}
 use Rattle.speculation.specs.Machine.{Machine}
 use Rattle.speculation.specs.Run.{Mark}
 use Rattle.speculation.specs.Core.{Core, front_home, verified}

@@ -22,11 +22,7 @@ const SEAT: u64 = 0;
 ///
 /// After every answer the board is over: it has a finish, or it was halted, by seat 0 or by a track that was given up. What was released
 /// and not written is lost.
-pub fn conduct_serial<O: Sink, N: Sink>(
-    board: &mut Board,
-    out: &mut O,
-    notes: &mut N,
-) -> Conducted
+pub fn conduct_serial<O: Sink, N: Sink>(board: &mut Board, out: &mut O, notes: &mut N) -> Conducted
     requires fresh { board.old.entries ≡ [] }
     ensures conducts { Conducts board.new
         (record { out = O.contents out.old; out_faults = O.faults out.old; notes = N.contents notes.old; notes_faults = N.faults notes.old })
@@ -131,11 +127,7 @@ fn take_verified(board: &mut Board) -> Result<Chunks, NoMemory>
 ///
 /// # Errors
 /// `Failed` where a sink failed. They then have a beginning of the bytes that is shorter.
-fn write_chunks<O: Sink, N: Sink>(
-    chunks: &Chunks,
-    out: &mut O,
-    notes: &mut N,
-) -> Result<(), Failed>
+fn write_chunks<O: Sink, N: Sink>(chunks: &Chunks, out: &mut O, notes: &mut N) -> Result<(), Failed>
     ensures { WritesPiece
         (record { out = O.contents out.old; out_faults = O.faults out.old; notes = N.contents notes.old; notes_faults = N.faults notes.old })
         (record { out = O.contents out.new; out_faults = O.faults out.new; notes = N.contents notes.new; notes_faults = N.faults notes.new })

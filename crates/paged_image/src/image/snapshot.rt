@@ -37,6 +37,16 @@ impl PagedImage {
             written,
         })
     }
+
+    /// Makes the write set of an image empty that owns no page, as that of a snapshot is.
+    pub fn forget_written(&mut self)
+        requires { owned_of self.old ≡ 0 }
+        ensures content { content self.new ≡ content self.old }
+        ensures written { written_of self.new ≡ [] }
+        ensures owned { owned_of self.new ≡ 0 }
+    {
+        self.written = WriteSet::new(self.alloc);
+    }
 }
 
 /// Shares all pages, and gives entries for a second image.

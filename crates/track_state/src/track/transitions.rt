@@ -1,7 +1,8 @@
 //! What a track becomes at its boundary.
 
-use super::snapshots::{close_region, open_region, start_here};
+use super::snapshots::{close_region, open_region, share_pages};
 use super::{Track, TrackState};
+use crate::start::Start;
 use basic_types::NoMemory;
 use held_output::Held;
 use speculation::Kind;
@@ -44,15 +45,15 @@ impl Track {
         requires { IsAtBoundary Segment (view_of self.old) }
         ensures { MatchResult result (IsForked self.old self.new) (λ _. IsUnchanged self.old self.new) }
     {
-        let versions = match open_region(self.alloc, &mut self.state) {
-            Ok(versions) => versions,
+        let normal = match open_region(&mut self.state) {
+            Ok(normal) => normal,
             Err(NoMemory) => return Err(NoMemory),
         };
         let normal = Track {
             alloc: self.alloc,
             kind: Kind::Normal,
-            start: versions.normal_start,
-            state: versions.normal,
+            start: Start::at(&normal),
+            state: normal,
             own: 0,
             held: Held::new(self.alloc),
             end: None,
@@ -61,7 +62,7 @@ impl Track {
         let steps = self.own;
         let held = mem::replace(&mut self.held, Held::new(self.alloc));
         self.kind = Kind::Fast;
-        self.start = versions.fast_start;
+        self.start = Start::at(&self.state);
         self.own = 0;
         self.end = None;
         Ok(Forked {
@@ -80,20 +81,17 @@ impl Track {
         requires { IsAtBoundary Fast (view_of self.old) }
         ensures { MatchResult result (IsCrossed self.old self.new) (λ _. IsUnchanged self.old self.new) }
     {
-        let closing = match close_region(self.alloc, &mut self.state) {
-            Ok(closing) => closing,
+        let end = match close_region(self.alloc, &mut self.state) {
+            Ok(end) => end,
             Err(NoMemory) => return Err(NoMemory),
         };
         let steps = self.own;
         self.held = Held::new(self.alloc);
         self.kind = Kind::Segment;
-        self.start = closing.start;
+        self.start = Start::at(&self.state);
         self.own = 0;
         self.end = None;
-        Ok(Crossed {
-            steps,
-            end: closing.end,
-        })
+        Ok(Crossed { steps, end })
     }
 
     /// An original at the closing call goes on as the segment behind the region. The number of its instructions and its
@@ -106,14 +104,13 @@ impl Track {
         requires { IsAtBoundary Normal (view_of self.old) }
         ensures { MatchResult result (GoesOn self.old self.new) (λ _. IsUnchanged self.old self.new) }
     {
-        let start = match start_here(self.alloc, &mut self.state) {
-            Ok(start) => start,
-            Err(NoMemory) => return Err(NoMemory),
-        };
+        if let Err(NoMemory) = share_pages(&mut self.state) {
+            return Err(NoMemory);
+        }
         let steps = self.own;
         let held = mem::replace(&mut self.held, Held::new(self.alloc));
         self.kind = Kind::Segment;
-        self.start = start;
+        self.start = Start::at(&self.state);
         self.own = 0;
         self.end = None;
         Ok((steps, held))

@@ -47,7 +47,7 @@ invariant_of-self c =
     let held = c.advance-progress.new.held in
     let p = c.advance-progress.result in
     let ran = c.advance-progress.ensures.progress in
-    let guest : IsGuestState c.args.input.now t.start = record { registers = subst (λ (s : State PagedImage). IsRegFile s.regs) c.deref.ensures c.pc-start.ensures.zero; memory = content-bounded c.args.self.now.start.value.memory; place = c.requires.runs.began } in
+    let guest : IsGuestState c.args.input.now t.start = record { registers = c.pc-start.ensures.zero; memory = content-bounded c.args.self.now.start.memory.value; place = c.requires.runs.began } in
     let layout : SharesLayout t.start u = subst (λ (q : Point MachineState End). SharesLayout t.start q.state) (ran-at c.args.input.now t limit n s u held p starts ran) (c.runs_keep_states.ensures.tracks c.args.input.now t.kind t.start (t.own + (n + p.taken)) guest).layout in
     record {
       within = omega (arith, starts.count, ran.below, fits);

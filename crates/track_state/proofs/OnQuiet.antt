@@ -1,0 +1,68 @@
+-- Runs of instructions that change registers alone
+use Rattle.std.proofs.Common.{◌≡◌, ℕ, zero, suc, ◌+◌, ◌*◌, ◌^◌, ◌<◌, ◌≤◌, ◌&&◌, Bool, true, false, List, [], ◌∷◌, Some, get_or, is_some, refl, sym, ap, ◌∙◌, subst, add-one, add-zero, arith}
+use Rattle.std.specs.Prelude.{◌==◌, slice_index, unwrap_or}
+use Rattle.std.specs.Int.{w32, from_le_bytes}
+use Rattle.speculation.specs.declared.tracks.Kind.{Kind}
+use Rattle.speculation.specs.declared.tracks.Kind.TheVariants.{Normal, Fast, Segment}
+use Rattle.speculation.specs.Run.{Piece}
+use Rattle.guest_model.specs.ByteMap.{ByteMap, byte, load, mapped, bytes_from}
+use Rattle.guest_model.specs.Registers.{RegFile, reg}
+use Rattle.guest_model.specs.MachineState.{MachineState}
+use Rattle.guest_model.specs.declared.state.Heap.{Heap}
+use Rattle.guest_model.specs.Step.{is_ecall, at_fast, at_end}
+use Rattle.guest_model.proofs.OnByteMap.{mapped-all, bytes_from-fill, load-mapped}
+use Rattle.paged_image.specs.Pages.{IsPage}
+use Rattle.rv32_step.specs.RegisterSteps.{StepsRegisters}
+use Rattle.rv32_step.specs.declared.on_registers.RegisterStep.TheVariants.{Next}
+use Rattle.track_state.specs.Progress.{halts}
+use Rattle.track_state.specs.Quiet.{IsQuiet, QuietSteps, QuietRegisters, seen}
+use Rattle.track_state.proofs.OnProgress.{SoFar, SoFar-quiet}
+
+-- ---- a word on a page
+
+four-each : (f : ℕ → ℕ) (k : ℕ) → k < 4 → get_or (f 0 ∷ f 1 ∷ f 2 ∷ f 3 ∷ []) k 0 ≡ f k
+four-each f zero h = refl
+four-each f (suc zero) h = refl
+four-each f (suc (suc zero)) h = refl
+four-each f (suc (suc (suc zero))) h = refl
+four-each f (suc (suc (suc (suc k)))) h = absurd (omega arith)
+
+page-at : (m : ByteMap) (number pc offset : ℕ) (page : List ℕ) → IsPage m number page → pc ≡ number * 4096 + offset → offset ≤ 4092 → (k : ℕ) → k < 4 → m (pc + k) ≡ Some (slice_index page (offset + k))
+page-at m number pc offset page h at low k less =
+    let e : pc + k ≡ number * 4096 + (offset + k) = omega arith in ap m e ∙ h.each (offset + k) (omega arith)
+
+pub page-load : (m : ByteMap) (number pc offset : ℕ) (page : List ℕ) → IsPage m number page → pc ≡ number * 4096 + offset → offset ≤ 4092
+    → load w32 m pc ≡ Some (from_le_bytes w32 (slice_index page offset ∷ slice_index page (offset + 1) ∷ slice_index page (offset + 2) ∷ slice_index page (offset + 3) ∷ []))
+page-load m number pc offset page h at low =
+    let f : ℕ → ℕ = λ k. slice_index page (offset + k) in
+    let bs : List ℕ = f 0 ∷ f 1 ∷ f 2 ∷ f 3 ∷ [] in
+    let all : mapped m pc 4 ≡ true = mapped-all m pc 4 (omega (arith, h.below)) (λ k less. ap is_some (page-at m number pc offset page h at low k less)) in
+    let bytes : bytes_from m pc 4 ≡ bs = bytes_from-fill m pc 4 bs refl (λ k less. four-each f k less ∙ sym (ap (λ o. unwrap_or o 0) (page-at m number pc offset page h at low k less))) in
+    load-mapped w32 m pc bs all bytes
+    ∙ ap (λ k. Some (from_le_bytes w32 (slice_index page k ∷ slice_index page (offset + 1) ∷ slice_index page (offset + 2) ∷ slice_index page (offset + 3) ∷ []))) (add-zero offset)
+
+-- ---- one instruction more
+
+pub quiet-none : (m : ByteMap) (f : RegFile) → QuietRegisters m f 0 f
+quiet-none m f = λ input place heap. refl
+
+pub quiet-more : (m : ByteMap) (f g h : RegFile) (n : ℕ) → QuietRegisters m f n g → ((place : ℕ) (heap : Heap) → StepsRegisters (seen m place heap g) h Next) → QuietRegisters m f (n + 1) h
+quiet-more m f g h n before last = λ input place heap.
+    let s = last place heap in
+    rw add-one (seen m place heap g, before input place heap, record { goes = s.0 false input; word = s.1 })
+
+-- ---- a run on its way
+
+no_call : (kind : Kind) (s : MachineState) → is_ecall (load w32 s.memory s.regs.pc) ≡ false → halts kind s ≡ false
+unfolding at_fast at_end
+no_call Normal s h = ap (λ b. b && (reg s.regs 17 == 2001)) h
+no_call Fast s h = ap (λ b. b && (reg s.regs 17 == 2001)) h
+no_call Segment s h = ap (λ b. b && (reg s.regs 17 == 2000)) h
+
+module _ (input : List ℕ) (kind : Kind) (s : MachineState) (own : ℕ) (held : List Piece) where
+  pub SoFar-quiets : (n m : ℕ) (t u : MachineState) (now : List Piece) → SoFar input kind s own held n t now → QuietSteps input t m u → SoFar input kind s own held (n + m) u now
+  SoFar-quiets n zero t u now h e = subst (λ v. SoFar input kind s own held (n + 0) v now) (sym e) (rw add-zero h)
+  SoFar-quiets n (suc m) t u now h (v, before, last) =
+      let whole : n + m + 1 ≡ n + suc m = omega arith in
+      subst (λ k. SoFar input kind s own held k u now) whole
+      (SoFar-quiet input kind s own held (n + m) v u 1 now (SoFar-quiets n m t v now h before) (no_call kind v last.word) last.goes)
