@@ -5,8 +5,8 @@ mod arithmetic;
 mod calls;
 mod effects;
 mod laws;
-mod one_step;
 mod on_registers;
+mod one_step;
 mod stepped;
 
 pub use calls::{END_DUAL_TRACK, FAST_TRACK, at_call, at_end, at_fast};

@@ -44,13 +44,7 @@ pub fn run_registers(state: &mut TrackState, limit: u64) -> Quiet
 }
 
 #[inline(always)]
-fn run_on_page(
-    number: u32,
-    page: &[u8],
-    regs: &mut Regs,
-    memory: &PagedImage,
-    limit: u64,
-) -> Quiet
+fn run_on_page(number: u32, page: &[u8], regs: &mut Regs, memory: &PagedImage, limit: u64) -> Quiet
     requires { IsPage (content memory.now) number page.now }
     ensures ran { QuietRegisters (content memory.now) regs.old result.taken regs.new }
     ensures within { result.taken ≤ limit }
@@ -77,7 +71,7 @@ fn run_on_page(
 }
 
 /// The word at `pc`, where all of it lies on the page of this number.
-#[inline(always)]
+#[inline]
 fn word_on_page(number: u32, page: &[u8], pc: u32) -> Option<u32>
     requires below { number < 2 ^ 20 }
     requires count { length page.now ≡ 4096 }
