@@ -1,9 +1,8 @@
 -- The step at a word that was fetched before
-use Rattle.std.proofs.Common.{◌≡◌, ◌≢◌, ℕ, Bool, true, false, List, [], Option, Some, None, Ok, Err, refl, sym, ap, ◌∙◌, inl, inr}
+use Rattle.std.proofs.Common.{◌≡◌, ℕ, Bool, false, List, Option, Some, None, Ok, Err, refl, sym, ap, ◌∙◌, inl, inr}
 use Rattle.std.specs.Prelude.{◌==◌}
 use Rattle.std.specs.Int.{w32}
 use Rattle.std.proofs.lemmas.Bool.{cases_Bool, eqb-true}
-use Rattle.speculation.specs.Machine.{Next, Ends}
 use Rattle.guest_model.specs.ByteMap.{load}
 use Rattle.guest_model.specs.Registers.{RegFile}
 use Rattle.guest_model.specs.MachineState.{MachineState}
@@ -16,7 +15,7 @@ use Rattle.guest_model.specs.declared.end.Trap.TheVariants.{Illegal}
 use Rattle.guest_model.specs.declared.instr.Instr.{Instr}
 use Rattle.guest_model.specs.declared.instr.Instr.TheVariants.{Store, Ecall}
 use Rattle.rv32_step.specs.Moves.{ChangesRegisters}
-use Rattle.rv32_step.specs.RegisterSteps.{ChangesMore, IsOther, StepsRegisters}
+use Rattle.rv32_step.specs.RegisterSteps.{ChangesMore, StepsRegisters}
 use Rattle.rv32_step.specs.declared.on_registers.RegisterStep.TheVariants as R
 
 module _ (s : MachineState) (w : ℕ) (fetched : load w32 s.memory s.regs.pc ≡ Some w) where

@@ -71,7 +71,7 @@ fn run_on_page(number: u32, page: &[u8], regs: &mut Regs, memory: &PagedImage, l
 }
 
 /// The word at `pc`, where all of it lies on the page of this number.
-#[inline(always)]
+#[inline]
 fn word_on_page(number: u32, page: &[u8], pc: u32) -> Option<u32>
     requires below { number < 2 ^ 20 }
     requires count { length page.now ≡ 4096 }

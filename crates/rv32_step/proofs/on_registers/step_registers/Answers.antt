@@ -1,4 +1,4 @@
-use Rattle.std.proofs.Common.{◌≡◌, rules}
+use Rattle.std.proofs.Common.{rules}
 use Rattle.guest_calls.specs.Serves.{state_of}
 use Rattle.rv32_step.specs.RegisterSteps.{ChangesMore}
 use Rattle.rv32_step.proofs.RegisterSteps.{illegal, other, went, trapped}

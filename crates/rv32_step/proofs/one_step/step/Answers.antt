@@ -1,7 +1,3 @@
-use Rattle.std.proofs.Common.{◌≡◌, ◌∙◌, ap}
-use Rattle.guest_model.specs.MachineState.{MachineState, flat}
-use Rattle.guest_model.specs.Registers.{RegFile}
-use Rattle.rv32_step.specs.RegisterSteps.{IsOther}
 use Rattle.rv32_step.proofs.one_step.step.Goals as goal
 
 pub step_other-requires-clause-here : goal.step_other-requires-clause-here
