@@ -1,5 +1,5 @@
 -- Every plan has a history, and what becomes of it
-use Rattle.std.proofs.Common.{◌≡◌, ℕ, zero, suc, ◌<◌, ◌≤◌, Bool, true, false, List, [], ◌∷◌, ◌++◌, length, Option, Some, None, Result, Ok, Err, ◌⊎◌, inl, inr, refl, sym, ap, ◌∙◌, subst, arith}
+use Rattle.std.proofs.Common.{◌≡◌, ℕ, zero, suc, ◌≤◌, Bool, true, false, List, [], ◌∷◌, ◌++◌, length, Option, Some, None, Result, Ok, Err, ◌⊎◌, inl, inr, refl, sym, ap, ◌∙◌, subst, arith}
 use Rattle.std.specs.Prelude.{nat_lt, if◌then◌else◌}
 use Rattle.speculation.specs.declared.history.Entry.{Entry}
 use Rattle.speculation.specs.Serial.{IsSerial}
@@ -17,9 +17,9 @@ use Rattle.program_words.specs.declared.request.Task.TheVariants.{Alone, Run, Tr
 use Rattle.fasttrack_program.specs.declared.options.Options.{Options}
 use Rattle.fasttrack_program.specs.declared.answer.Answer.{Answer}
 use Rattle.fasttrack_program.specs.declared.answer.Answer.TheVariants.{Exited, Trapped, Spent, Shown, Usage, ReadFault, ImageTooLong, BadImage, InputTooLong, WriteFault, NoMemory}
-use Rattle.fasttrack_program.specs.AnswerLine.{line_of, unless_told, HasNumbers, IsSaidFor, Tells, TellsLine, Concludes}
-use Rattle.fasttrack_program.specs.Plan.{Refusal, LongImage, LongInput, Refused, Runs, options_of, refused_file, image_in, image_limit, input_limit, with_input, with_image, bench_regions, bench_image, with_bench, bench_plan, plan_of, plan}
-use Rattle.fasttrack_program.specs.Serving.{handed, handed_by, completes, with_history}
+use Rattle.fasttrack_program.specs.AnswerLine.{line_of, unless_told, IsSaidFor, Tells, Concludes}
+use Rattle.fasttrack_program.specs.Plan.{Refusal, LongImage, LongInput, Refused, Runs, options_of, refused_file, image_in, image_limit, input_limit, with_image, bench_regions, bench_image, with_bench, bench_plan, plan_of, plan}
+use Rattle.fasttrack_program.specs.Serving.{handed_by, completes, with_history}
 use Rattle.fasttrack_program.specs.TopCall.{settings_of, HasHistory, HasHistoryOf, hands_out, histories_after}
 use Rattle.fasttrack_program.proofs.OnImages.{image-guest}
 

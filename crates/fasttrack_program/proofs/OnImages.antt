@@ -1,13 +1,13 @@
 -- The program of every image starts in a guest state
-use Rattle.std.proofs.Common.{◌≡◌, ℕ, ◌+◌, ◌*◌, ◌/◌, ◌^◌, ◌<◌, ◌≤◌, Bool, true, false, ◌&&◌, ◌||◌, cond, List, [], ◌∷◌, length, Option, Some, None, Result, Ok, Err, refl, sym, ap, ◌∙◌, subst, arith}
-use Rattle.std.specs.Prelude.{nat_le, nat_lt, ◌==◌, if◌then◌else◌, min}
+use Rattle.std.proofs.Common.{◌≡◌, ℕ, ◌+◌, ◌*◌, ◌/◌, ◌^◌, ◌<◌, ◌≤◌, Bool, true, false, ◌&&◌, ◌||◌, List, [], ◌∷◌, length, Option, Some, None, Ok, refl, sym, ap, ◌∙◌, arith}
+use Rattle.std.specs.Prelude.{nat_le, nat_lt, ◌==◌, if◌then◌else◌}
 use Rattle.std.specs.List.{All, list_any}
-use Rattle.std.proofs.lemmas.Bool.{and_parts, lt-ltb, le-leb}
+use Rattle.std.proofs.lemmas.Bool.{and_parts}
 use Rattle.std.proofs.lemmas.Bool.Decides.{nat_tests}
 use Rattle.std.proofs.lemmas.List.Elements.{All-head, All-tail}
 use Rattle.guest_model.specs.Difference.{or_else, first_some}
-use Rattle.guest_model.specs.Image.{Image, image, image_of, image_unless, start_of, last_end, page_up, heap_limit, heap_from, heap_of, is_mapped_page, initial_memory}
-use Rattle.guest_model.specs.ImageFault.{Fault, header_fault, segment_fault, segment_faults, first_fault, is_bad, stack_base, stack_end}
+use Rattle.guest_model.specs.Image.{Image, image, image_of, image_unless, start_of, last_end, page_up, heap_from, heap_of, is_mapped_page}
+use Rattle.guest_model.specs.ImageFault.{Fault, header_fault, segment_fault, first_fault, is_bad, stack_base, stack_end}
 use Rattle.guest_model.specs.Segment.{Segment, segments, e_entry, has_bytes, has_page, last_page, end_of, is_load}
 use Rattle.guest_model.specs.declared.state.Heap.{Heap}
 use Rattle.rv32_law.specs.GuestStates.{IsGuestState}

@@ -1,16 +1,14 @@
 -- A run with tracks and the texts behind its output, and the summary of a bench
-use Rattle.std.proofs.Common.{◌≡◌, ℕ, ◌+◌, ◌*◌, ◌^◌, ◌<◌, ◌≤◌, true, false, List, [], ◌∷◌, ◌++◌, length, Option, Some, None, Result, Ok, Err, ◌⊎◌, inl, inr, refl, sym, ap, ap₂, ◌∙◌, subst, append_assoc, append-nil, arith}
+use Rattle.std.proofs.Common.{◌≡◌, ℕ, ◌^◌, ◌<◌, ◌≤◌, List, [], ◌∷◌, ◌++◌, length, Option, Some, Ok, Err, inl, inr, refl, sym, ap, ◌∙◌, subst, append_assoc, append-nil, arith}
 use Rattle.std.specs.Prelude.{All, if◌then◌else◌}
 use Rattle.std.specs.Io.KnownBytes.{Appends}
 use Rattle.speculation.specs.declared.history.Entry.{Entry}
 use Rattle.speculation.specs.Run.{Mark, marked, fresh, out}
 use Rattle.speculation.specs.Record.{alone, output_of}
-use Rattle.speculation.specs.Ledger.{ledger, originals}
+use Rattle.speculation.specs.Ledger.{originals}
 use Rattle.speculation.specs.Serial.{IsSerial}
 use Rattle.speculation.proofs.Records.{output-alone}
-use Rattle.host_io.specs.Faults.{Rose}
-use Rattle.guest_model.specs.Image.{Image, image, program_alone, start_of}
-use Rattle.guest_model.specs.ImageFault.{Fault}
+use Rattle.guest_model.specs.Image.{image, program_alone, start_of}
 use Rattle.guest_model.specs.Rv32.{rv32}
 use Rattle.guest_model.specs.declared.end.End.{End}
 use Rattle.guest_model.specs.declared.end.End.TheVariants as E
@@ -18,15 +16,12 @@ use Rattle.rv32_law.specs.GuestStates.{IsGuestState}
 use Rattle.rv32_law.proofs.Starts.{start-is-guest}
 use Rattle.rv32_law.proofs.OutputBounds.{out-bound}
 use Rattle.rv32_asm.specs.Generated.{generated}
-use Rattle.elf32_loader.specs.LoadedImage.{image_of_loaded, IsRefused}
-use Rattle.elf32_loader.specs.FaultOf.{fault_of}
+use Rattle.elf32_loader.specs.LoadedImage.{image_of_loaded}
 use Rattle.elf32_loader.specs.declared.loaded.Loaded.{Loaded}
 use Rattle.region_ledger.specs.Ledger.{ledger_rows, totals_of, SavesAtMostAll}
 use Rattle.region_ledger.specs.declared.finished.Finished.{Finished}
-use Rattle.region_ledger.specs.declared.row.Row.{Row}
 use Rattle.report_text.specs.Reports.{bench_lines}
-use Rattle.guest_streams.specs.GuestStreams.{Sinks, Gets, GetsAll, GetsPart, StopsShort, FailsAt, IsNext, WritesPiece, end_of}
-use Rattle.guest_streams.specs.declared.fault.OutputFault.{OutputFault}
+use Rattle.guest_streams.specs.GuestStreams.{Sinks, Gets, GetsAll, GetsPart, StopsShort, FailsAt, IsNext}
 use Rattle.guest_streams.specs.declared.fault.OutputFault.TheVariants.{Write, NoMemory}
 use Rattle.guest_streams.proofs.OnStreams.{Gets-nothing, IsCalm-refl, marked-append, IsNext-marked, WritesPiece-on_notes, GetsAll-more, StopsShort-amid, GetsPart-more}
 use Rattle.track_board.specs.Value.{Posted}
@@ -36,11 +31,10 @@ use Rattle.worker_gate.specs.declared.conducted.Conducted.{Conducted}
 use Rattle.worker_gate.specs.declared.conducted.Conducted.TheVariants as C
 use Rattle.program_words.specs.declared.request.Task.TheVariants.{Run, Bench}
 use Rattle.fasttrack_program.specs.declared.options.Options.{Options}
-use Rattle.fasttrack_program.specs.declared.answer.Answer.{Answer}
 use Rattle.fasttrack_program.specs.declared.answer.Answer.TheVariants as A
 use Rattle.fasttrack_program.specs.declared.served.Served.{Served}
 use Rattle.fasttrack_program.specs.Plan.{Runs, refused_file, bench_regions, bench_plan, with_bench}
-use Rattle.fasttrack_program.specs.Reports.{report, program_report, bench_report, journal_text, asked_texts}
+use Rattle.fasttrack_program.specs.Reports.{bench_report, journal_text, asked_texts}
 use Rattle.fasttrack_program.specs.Serving.{answer_of, plainly, handed, IsDone}
 use Rattle.fasttrack_program.specs.TextOnSink.{WritesText}
 use Rattle.fasttrack_program.specs.TopCall.{settings_of, texts_behind, Serves}
