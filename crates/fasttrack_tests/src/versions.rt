@@ -61,16 +61,25 @@ fn exits<'a>(code: u32, report: &'a str) -> Told<'a> {
     }
 }
 
-/// The call of this command on the small image of these words, with this budget and the input `abc`.
-fn call_of(alloc: Global, words: &[u32], command: &[&str], budget: &str) -> Result<Got, Fail> {
+/// `trial` of the small image of these words, with this budget and the input `abc`.
+fn trial_of(alloc: Global, words: &[u32], budget: &str) -> Result<Got, Fail> {
     let image = image_of(alloc, words)?;
-    let mut line = Vec::from_slice(alloc, command)?;
-    line.push("--budget")?;
-    line.push(budget)?;
     call(
         alloc,
         &Given {
-            words: line.as_slice(),
+            words: &["trial", "g", "--budget", budget],
+            ..plain(image.as_slice(), b"abc")
+        },
+    )
+}
+
+/// `run` of it, with the report.
+fn run_of(alloc: Global, words: &[u32], budget: &str) -> Result<Got, Fail> {
+    let image = image_of(alloc, words)?;
+    call(
+        alloc,
+        &Given {
+            words: &["run", "g", "--report", "--budget", budget],
             ..plain(image.as_slice(), b"abc")
         },
     )
@@ -85,11 +94,11 @@ fn check(
     budget: &str,
     told: &Told<'_>,
 ) -> Result<(), Fail> {
-    let trial = call_of(alloc, words, &["trial", "g"], budget)?;
+    let trial = trial_of(alloc, words, budget)?;
     assert!(rt; trial.answer == Answer::Shown && status(&trial.answer) == 0);
     assert!(rt; trial.out.as_slice() == told.report.as_bytes());
     assert!(rt; trial.notes.is_empty() && trial.told.as_slice().is_empty());
-    let run = call_of(alloc, words, &["run", "g", "--report"], budget)?;
+    let run = run_of(alloc, words, budget)?;
     assert!(rt; run.answer == told.answer);
     assert!(rt; run.out.as_slice() == told.out);
     let notes = format!(in alloc; "{}{}", told.report, told.line)?;
