@@ -3,7 +3,7 @@
 use crate::call::{Given, Got, call, image_of, plain};
 use crate::programs::{SUM, TWO_STREAMS};
 use crate::versions::MANY_REGIONS;
-use board_events::entry_text;
+use board_events::{Entry, entry_text};
 use fasttrack_program::{Answer, status};
 use rv32_asm::generate;
 use std::alloc::Global;
@@ -34,7 +34,6 @@ fn history_of(alloc: Global, got: &Got) -> Result<String, Fail> {
     };
     for entry in history.as_slice() {
         text.push_str(entry_text(alloc, entry)?.as_str())?;
-        text.push('\n')?;
     }
     Ok(text)
 }
@@ -174,21 +173,46 @@ fn each_failure_in_turn(rt: HostRuntime) -> Result<(), Fail> {
             },
         )?;
         let read_fails = k < 2;
-        assert!(rt; (files.answer == Answer::ReadFault) == read_fails);
-        assert!(rt; (input.answer == Answer::ReadFault) == read_fails);
-        assert!(rt; files.out.is_empty() == read_fails && input.out.is_empty() == read_fails);
-        assert!(rt; files.told.as_slice().is_empty() == read_fails);
+        for got in [&files, &input] {
+            let (answer, out, notes) = if read_fails {
+                (
+                    Answer::ReadFault,
+                    b"".as_slice(),
+                    "fasttrack: read failed\n",
+                )
+            } else {
+                (Answer::Exited(0), SUMS.as_slice(), "")
+            };
+            assert!(rt; got.answer == answer && got.out.as_slice() == out);
+            assert!(rt; got.notes.as_slice() == notes.as_bytes());
+            assert!(rt; got.told.as_slice().is_empty() == read_fails);
+        }
     }
     Ok(())
 }
 
-/// A call of a sink fails: `out` has a prefix of the output, and all of it where `notes` failed.
+/// How many times the only history that was handed out releases so many bytes.
+fn releases_of(got: &Got, bytes: u64) -> Result<usize, Fail> {
+    let [history] = got.told.as_slice() else {
+        return Err(Fail::new("no history, or more than one"));
+    };
+    let release = Entry::Release { bytes };
+    Ok(
+        history
+            .as_slice()
+            .iter()
+            .filter(|entry| **entry == release)
+            .count(),
+    )
+}
+
+/// Each call of `out` fails in turn, until a run ends without a fault: `out` has a prefix of the output.
 #[test]
-fn sinks_that_fail(rt: HostRuntime) -> Result<(), Fail> {
+fn output_that_fails(rt: HostRuntime) -> Result<(), Fail> {
     let image = generate(rt.alloc(), 1, 6)?;
-    let mut last = Answer::WriteFault;
-    for k in 0..12u64 {
-        let out = call(
+    let mut failed = 0u64;
+    for k in 0..8u64 {
+        let got = call(
             rt.alloc(),
             &Given {
                 words: &["run", "g"],
@@ -196,19 +220,26 @@ fn sinks_that_fail(rt: HostRuntime) -> Result<(), Fail> {
                 ..plain(image.as_slice(), b"")
             },
         )?;
-        assert!(rt; SUMS.starts_with(out.out.as_slice()));
-        assert!(rt;
-            if out.answer == Answer::WriteFault {
-                out.told.as_slice().is_empty()
-            } else {
-                out.answer == Answer::Exited(0) && out.out.len() == 24
-            }
-        );
-        last = out.answer;
+        let fails = got.answer == Answer::WriteFault;
+        assert!(rt; fails || got.answer == Answer::Exited(0));
+        assert!(rt; SUMS.starts_with(got.out.as_slice()) && (got.out.len() < 24) == fails);
+        assert!(rt; got.told.as_slice().is_empty() == fails);
+        if fails {
+            failed = k + 1;
+        }
     }
-    assert!(rt; last == Answer::Exited(0));
-    for k in 0..12u64 {
-        let notes = call(
+    // Each release is one call.
+    assert!(rt; failed > 0 && failed < 8);
+    Ok(())
+}
+
+/// Each call of `notes` fails in turn, until a run ends without a fault: `out` has all of the output.
+#[test]
+fn notes_that_fail(rt: HostRuntime) -> Result<(), Fail> {
+    let image = generate(rt.alloc(), 1, 6)?;
+    let mut failed = 0u64;
+    for k in 0..120u64 {
+        let got = call(
             rt.alloc(),
             &Given {
                 words: &["run", "g", "--report", "--journal"],
@@ -216,9 +247,16 @@ fn sinks_that_fail(rt: HostRuntime) -> Result<(), Fail> {
                 ..plain(image.as_slice(), b"")
             },
         )?;
-        assert!(rt; notes.answer == Answer::WriteFault && notes.out.as_slice() == SUMS.as_slice());
-        assert!(rt; notes.told.as_slice().is_empty());
+        assert!(rt; got.out.as_slice() == SUMS.as_slice());
+        let fails = got.answer == Answer::WriteFault;
+        assert!(rt; fails || got.answer == Answer::Exited(0));
+        assert!(rt; got.told.as_slice().is_empty() == fails);
+        if fails {
+            failed = k + 1;
+        }
     }
+    // Each line of report and journal is one call.
+    assert!(rt; failed > 8 && failed < 120);
     Ok(())
 }
 
@@ -287,6 +325,7 @@ fn much_output(rt: HostRuntime) -> Result<(), Fail> {
         assert!(rt; got.answer == Answer::Exited(0));
         assert!(rt; got.out.len() == 3_145_728 && got.out.iter().all(|byte| *byte == 0));
         assert!(rt; got.notes.ends_with(totals.as_bytes()));
+        assert!(rt; releases_of(&got, 1_048_576)? == 3);
     }
     Ok(())
 }
