@@ -5,3 +5,5 @@ pub mod Values
 pub mod ByCommand
 pub mod OnArgs
 pub mod BenchNumber
+pub mod KeptRows
+pub mod InRange

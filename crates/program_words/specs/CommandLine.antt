@@ -166,6 +166,22 @@ unless_faulty (k ∷ ks) request = None
 abbrev pub request_of : List Text → Option Request
 request_of words = unless_faulty (fault_of command words) (request_in (matches_of command words))
 
+-- the number of a bench is below 2^32
+abbrev pub HasShortNumber : Task → Type 0
+HasShortNumber Alone = Unit {0}
+HasShortNumber Run = Unit {0}
+HasShortNumber Trial = Unit {0}
+HasShortNumber (Bench number) = number < 2 ^ 32
+
+-- the numbers of a request are in the ranges of its options; there are no workers yet
+pub record IsInRange (r : Request) : Type 0 where
+  pub least_tracks : 1 ≤ r.tracks
+  pub most_tracks : r.tracks ≤ 32
+  pub workers : r.workers ≤ 0
+  pub least_budget : 1 ≤ r.budget
+  pub most_budget : r.budget ≤ 2 ^ 40
+  pub task : HasShortNumber r.task
+
 -- ---- the values
 
 -- a positional has a value

@@ -2,6 +2,7 @@
 #![tactic(auto)]
 
 mod command;
+pub mod laws;
 mod request;
 
 pub use request::{Request, Task, WordsFault, read_words};
