@@ -49,6 +49,7 @@ fn makes_requests(rt: HostRuntime) -> Result<(), Fail> {
                 ..alone
             },
         ),
+        ("alone x --budget +5", Request { budget: 5, ..alone }),
         (
             "--no-input --budget=7 trial dir/x",
             Request {
