@@ -158,3 +158,33 @@ pub added : (r : Option Request) (old : List (List Entry)) (entries : List Entry
 added None old entries history told new faults faults' answer result h c = ap (λ x. with_history old x result) h
 added (Some r) old entries history told new faults faults' answer result h c =
     ap (λ x. with_history old x result) h ∙ added-by r.task old entries answer result (hands_out r.task answer) refl (kept told new faults faults' answer result c)
+
+-- ---- ReadFault as it is told
+
+said-told : (said : Answer) → unless_told said ≡ ReadFault → said ≡ ReadFault
+said-told (Trapped trap pc) e = absurd (cc)
+said-told Spent e = absurd (cc)
+said-told (Exited code) e = e
+said-told Shown e = e
+said-told Usage e = e
+said-told ReadFault e = e
+said-told ImageTooLong e = e
+said-told (BadImage f) e = e
+said-told InputTooLong e = e
+said-told WriteFault e = e
+said-told NoMemory e = e
+
+said-tells : (old new : Option (List ℕ)) (faults faults' : ℕ) (said result : Answer) (line : Option (List ℕ)) → Tells old new faults faults' said result line → result ≡ ReadFault → said ≡ ReadFault
+said-tells old new faults faults' said result None h e = sym h.2 ∙ e
+said-tells old new faults faults' said result (Some line) (inl h) e = sym h.2 ∙ e
+said-tells old new faults faults' said result (Some line) (inr h) e = said-told said (sym h.4 ∙ e)
+
+said-for : (answer said : Answer) → IsSaidFor answer said → said ≡ ReadFault → answer ≡ ReadFault
+said-for answer said (inl e) is = sym e ∙ is
+said-for answer said (inr e) is =
+    let bad : NoMemory ≡ ReadFault = sym e.0 ∙ is in
+    absurd (cc)
+
+-- it is the answer that was served
+pub read_fault-served : (old new : Option (List ℕ)) (faults faults' : ℕ) (answer result : Answer) → Concludes old new faults faults' answer result → result ≡ ReadFault → answer ≡ ReadFault
+read_fault-served old new faults faults' answer result c e = said-for answer c.said c.for_answer (said-tells old new faults faults' c.said result (line_of c.said) c.tells e)

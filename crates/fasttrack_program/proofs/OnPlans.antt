@@ -227,9 +227,9 @@ early-runs task i input o entries old new NoMemory h e = e
 pub late-runs : (task : Task) (i : Image) (input : List ℕ) (o : Options) (old new : Sinks) (v : Served) → IsDone task (Runs task i input o) old new v → IsRefusedEarly v.answer → ⊥
 late-runs task i input o old new v d e = early-runs task i input o d.entries old new v.answer d.serves e
 
--- a read fault of the image is counted
-pub counted-image : (T : Type 0) (old new : ℕ) (a : Answer) (v : Served) → CountsReadFault {T = T} old new (Err a) → v ≡ plainly a → v.answer ≡ ReadFault → Rose old new
-counted-image T old new a v h e is = subst (λ x. CountsReadFault {T = T} old new (Err x)) (sym (ap (λ (x : Served). x.answer) e) ∙ is) h
+-- a read fault of the image, or of the input, is counted
+pub counted-read : (T : Type 0) (old new : ℕ) (a : Answer) (v : Served) → CountsReadFault {T = T} old new (Err a) → v ≡ plainly a → v.answer ≡ ReadFault → Rose old new
+counted-read T old new a v h e is = subst (λ x. CountsReadFault {T = T} old new (Err x)) (sym (ap (λ (x : Served). x.answer) e) ∙ is) h
 
 -- ---- an answer whose line could not be made
 

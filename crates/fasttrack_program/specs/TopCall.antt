@@ -1,5 +1,5 @@
 -- What a call of the program answers, what it leaves on `out` and `notes`, and which history it hands out
-use Rattle.std.specs.Prelude.{◌≡◌, ℕ, ◌≤◌, Bool, true, false, ◌&&◌, nat_le, if◌then◌else◌, List, [], ◌∷◌, ◌++◌, Option, Some, None}
+use Rattle.std.specs.Prelude.{◌≡◌, ℕ, ◌≤◌, Bool, true, false, ◌&&◌, nat_le, if◌then◌else◌, List, [], ◌∷◌, ◌++◌, Option, Some, None, Ok, ◌⊎◌}
 use Rattle.speculation.specs.declared.history.Entry.{Entry}
 use Rattle.speculation.specs.declared.history.Settings.{Settings}
 use Rattle.speculation.specs.Record.{output_of}
@@ -9,6 +9,7 @@ use Rattle.guest_model.specs.Image.{Image, program_alone, start_of}
 use Rattle.guest_model.specs.Rv32.{rv32}
 use Rattle.guest_model.specs.declared.end.End.{End}
 use Rattle.guest_model.specs.declared.end.End.TheVariants as E
+use Rattle.host_io.specs.Faults.{Rose}
 use Rattle.elf32_loader.specs.FaultOf.{fault_of}
 use Rattle.elf32_loader.specs.declared.fault.ImageFault.{ImageFault}
 use Rattle.guest_streams.specs.GuestStreams.{Sinks, GetsAll, GetsPart, StopsShort, end_of}
@@ -16,7 +17,7 @@ use Rattle.program_words.specs.CommandLine.{Request}
 use Rattle.program_words.specs.declared.request.Task.{Task}
 use Rattle.program_words.specs.declared.request.Task.TheVariants.{Alone, Run, Trial, Bench}
 use Rattle.fasttrack_program.specs.Reports.{program_report, bench_report, journal_text}
-use Rattle.fasttrack_program.specs.Plan.{Plan, Refused, Runs, BadWords, LongImage, BadFile, LongInput, plan}
+use Rattle.fasttrack_program.specs.Plan.{Plan, Refused, Runs, BadWords, LongImage, BadFile, LongInput, image_in, plan}
 use Rattle.fasttrack_program.specs.Reading.{IsTold}
 use Rattle.fasttrack_program.specs.AnswerLine.{line_of, Tells}
 use Rattle.fasttrack_program.specs.declared.options.Options.{Options}
@@ -158,6 +159,33 @@ is_bench Alone = false
 is_bench Run = false
 is_bench Trial = false
 is_bench (Bench number) = true
+
+-- the request names an image file to be read: it is there, and asks for no bench
+abbrev pub ReadsFile : Option Request → Type 0
+ReadsFile None = ⊥
+ReadsFile (Some r) = is_bench r.task ≡ false
+
+-- the request wants the input
+abbrev pub WantsInput : Option Request → Type 0
+WantsInput None = ⊥
+WantsInput (Some r) = r.no_input ≡ false
+
+-- The input could not be read at its place in the order: it is wanted, its count rose, that of the files did not, and the
+-- file, which is the one that is told, holds an image without a fault.
+pub record InputFails (request : Option Request) (told_file : Option (List ℕ)) (files files' input input' : ℕ) : Type 0 where
+  pub wanted : WantsInput request
+  pub rose : Rose input input'
+  pub files_calm : files' ≡ files
+  pub file : List ℕ
+  pub file_told : IsTold told_file file
+  pub image : Image
+  pub loads : image_in file ≡ Ok image
+
+-- The cause of ReadFault. The request reads an image file, and either that could not be read: its count rose, and the
+-- input is as it was; or the input could not. `faults` counts those of the input.
+abbrev pub ReadFails : {I : Type 0} → Option Request → Option (List ℕ) → ℕ → ℕ → (I → ℕ) → I → I → Type 0
+ReadFails request told_file files files' faults input input' =
+    ReadsFile request × ((Rose files files' × (input' ≡ input)) ⊎ InputFails request told_file files files' (faults input) (faults input'))
 
 -- the words ask for workers
 abbrev pub needs_workers : Option Request → Bool

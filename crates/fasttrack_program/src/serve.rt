@@ -1,13 +1,12 @@
 //! One call of the program up to its answer's line.
 
-ghost use Rattle.std.specs.Prelude.{◌≡◌, ◌⊎◌, [], Some, true, false};
-ghost use Rattle.host_io.specs.Faults.{Rose};
+ghost use Rattle.std.specs.Prelude.{◌≡◌, [], Some, true, false};
 ghost use Rattle.elf32_loader.specs.LoadedImage.{image_of_loaded};
 ghost use Rattle.program_words.specs.declared.request.Task.TheVariants.{Alone};
 ghost use Rattle.track_board.specs.Value.{IsSettings};
 ghost use Rattle.fasttrack_program.specs.Plan.{Runs, options_of};
 ghost use Rattle.fasttrack_program.specs.Serving.{IsDone, IsServedWith, asked};
-ghost use Rattle.fasttrack_program.specs.TopCall.{IsRefusedEarly, Serves, is_bench, settings_of};
+ghost use Rattle.fasttrack_program.specs.TopCall.{IsRefusedEarly, ReadFails, Serves, is_bench, settings_of};
 
 use crate::alone::run_alone;
 use crate::answer::{Answer, answer_of};
@@ -97,7 +96,8 @@ pub fn serve_request<F: Files, I: Source, O: Sink, N: Sink>(
         (record { out = O.contents out.old; out_faults = O.faults out.old; notes = N.contents notes.old; notes_faults = N.faults notes.old })
         (record { out = O.contents out.new; out_faults = O.faults out.new; notes = N.contents notes.new; notes_faults = N.faults notes.new })
         result }
-    ensures read_fault { result.answer ≡ Answer.ReadFault → Rose (F.faults files.old) (F.faults files.new) ⊎ ((request.now.no_input ≡ false) × Rose (I.faults input.old) (I.faults input.new)) }
+    ensures read_fault { result.answer ≡ Answer.ReadFault
+        → ReadFails (Some (asked request.now)) (F.contents files.old request.now.image.now) (F.faults files.old) (F.faults files.new) I.faults input.old input.new }
     ensures unread { request.now.no_input ≡ true → input.new ≡ input.old }
     ensures early { IsRefusedEarly result.answer → input.new ≡ input.old }
     ensures bench { is_bench request.now.task ≡ true → (files.new ≡ files.old) × (input.new ≡ input.old) }

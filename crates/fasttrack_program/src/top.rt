@@ -1,10 +1,9 @@
 //! The top call: words, image, input, run, and the answer's line, in this order.
 
 ghost use Rattle.std.specs.Prelude.{◌≡◌, ◌<◌, ◌⊎◌, true, false, None, Some, IfSome, IfNone, IsSome, map, string_bytes, vec_len, vec_capacity};
-ghost use Rattle.host_io.specs.Faults.{Rose};
 ghost use Rattle.program_words.specs.CommandLine.{request_of};
 ghost use Rattle.fasttrack_program.specs.Serving.{IsServedWith, asked};
-ghost use Rattle.fasttrack_program.specs.TopCall.{IsAnswered, IsRefusedEarly, is_bench, needs_workers, told_of};
+ghost use Rattle.fasttrack_program.specs.TopCall.{IsAnswered, IsRefusedEarly, ReadFails, is_bench, needs_workers, told_of};
 
 use crate::answer::Answer;
 use crate::answer_line::conclude;
@@ -49,9 +48,11 @@ pub fn plain_main<F: Files, I: Source, O: Sink, N: Sink>(
         × (files.new ≡ files.old) × (input.new ≡ input.old) × (out.new ≡ out.old) × (notes.new ≡ notes.old) × (told.new ≡ told.old)) }
     ensures some { IfSome result (λ answer. (answer ≡ Answer.NoMemory) ⊎ (needs_workers (request_of (map string_bytes words.now)) ≡ false)) }
 
-    // A fault of files or input is counted, and the input is read only where it is asked for, after the image. A bench
-    // reads neither.
-    ensures read_fault { IfSome result (λ answer. answer ≡ Answer.ReadFault → Rose (F.faults files.old) (F.faults files.new) ⊎ Rose (I.faults input.old) (I.faults input.new)) }
+    // A read that failed is counted: that of the image file, and the input was left alone; or that of the input, which is
+    // read only where it is asked for, after an image without a fault. A bench reads neither.
+    ensures read_fault { let request = request_of (map string_bytes words.now) in
+        IfSome result (λ answer. answer ≡ Answer.ReadFault
+        → ReadFails request (told_of (F.contents files.old) request) (F.faults files.old) (F.faults files.new) I.faults input.old input.new) }
     ensures unread { IfSome (request_of (map string_bytes words.now)) (λ r. r.no_input ≡ true → input.new ≡ input.old) }
     ensures early { IfSome result (λ answer. IsRefusedEarly answer → input.new ≡ input.old) }
     ensures bench { IfSome (request_of (map string_bytes words.now)) (λ r. is_bench r.task ≡ true → (files.new ≡ files.old) × (input.new ≡ input.old)) }
@@ -91,7 +92,9 @@ fn serve_words<F: Files, I: Source, O: Sink, N: Sink>(
     ensures some { IfSome result (λ served. (served.answer ≡ Answer.NoMemory) ⊎ (needs_workers (request_of (map string_bytes words.now)) ≡ false)) }
     ensures items { histories.new.items ≡ histories.old.items }
     ensures room { IfSome result (λ served. IsSome served.history → vec_len histories.new < vec_capacity histories.new) }
-    ensures read_fault { IfSome result (λ served. served.answer ≡ Answer.ReadFault → Rose (F.faults files.old) (F.faults files.new) ⊎ Rose (I.faults input.old) (I.faults input.new)) }
+    ensures read_fault { let request = request_of (map string_bytes words.now) in
+        IfSome result (λ served. served.answer ≡ Answer.ReadFault
+        → ReadFails request (told_of (F.contents files.old) request) (F.faults files.old) (F.faults files.new) I.faults input.old input.new) }
     ensures unread { IfSome (request_of (map string_bytes words.now)) (λ r. r.no_input ≡ true → input.new ≡ input.old) }
     ensures early { IfSome result (λ served. IsRefusedEarly served.answer → input.new ≡ input.old) }
     ensures bench { IfSome (request_of (map string_bytes words.now)) (λ r. is_bench r.task ≡ true → (files.new ≡ files.old) × (input.new ≡ input.old)) }

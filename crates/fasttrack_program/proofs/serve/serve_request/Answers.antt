@@ -1,13 +1,14 @@
-use Rattle.std.proofs.Common.{◌≡◌, false, Some, inl, sym, subst}
+use Rattle.std.proofs.Common.{◌≡◌, false, Some, inl, inr, refl, sym, subst}
 use Rattle.elf32_loader.specs.LoadedImage.{image_of_loaded}
 use Rattle.elf32_loader.specs.declared.loaded.Loaded.{Loaded}
+use Rattle.basic_types.specs.declared.bytes.Bytes.{Bytes}
 use Rattle.guest_streams.specs.GuestStreams.{Sinks}
 use Rattle.program_words.specs.CommandLine.{Request}
 use Rattle.program_words.specs.declared.request.Task.TheVariants.{Bench}
 use Rattle.fasttrack_program.specs.Plan.{Runs, bench_plan, options_of}
 use Rattle.fasttrack_program.specs.Serving.{IsDone, IsServedWith, asked}
 use Rattle.fasttrack_program.specs.TopCall.{is_bench}
-use Rattle.fasttrack_program.proofs.OnPlans.{no_bench, served-image, served-input, served-no_input, served-runs, served-bench, late-input, late-runs, counted-image}
+use Rattle.fasttrack_program.proofs.OnPlans.{no_bench, served-image, served-input, served-no_input, served-runs, served-bench, late-input, late-runs, counted-read}
 use Rattle.fasttrack_program.proofs.serve.serve_request.Goals as goal
 
 pub returns-in-Bench-clause-served : goal.returns-in-Bench-clause-served
@@ -26,7 +27,8 @@ returns-in-Err-clause-served g c =
     (served-image (asked c.args.request.now) (g.F.Files.contents c.args.files.now c.args.request.now.image.now) (g.I.Source.remaining c.args.input.now) reads before c.in-Err.answer c.in-Err.ensures.reads)
 
 pub returns-in-Err-clause-read_fault : goal.returns-in-Err-clause-read_fault
-returns-in-Err-clause-read_fault g c = λ h. inl (counted-image Loaded _ _ c.in-Err.answer c.plain.result c.in-Err.ensures.counted c.plain.ensures h)
+returns-in-Err-clause-read_fault g c = λ h.
+    (no_bench c.args.request.now.task c.in_default.not-Bench, inl (counted-read Loaded _ _ c.in-Err.answer c.plain.result c.in-Err.ensures.counted c.plain.ensures h, refl))
 
 pub returns-then-request-clause-served : goal.returns-then-request-clause-served
 returns-then-request-clause-served g c =
@@ -62,6 +64,20 @@ returns-clause-served g c =
     let reads : is_bench c.args.request.now.task ≡ false = no_bench c.args.request.now.task c.in_default.not-Bench in
     subst (IsServedWith (Some (asked c.args.request.now)) (g.F.Files.contents c.args.files.now c.args.request.now.image.now) (g.I.Source.remaining c.args.input.now) before before) (sym c.plain-in-Err-read_input.ensures)
     (served-input (asked c.args.request.now) (g.F.Files.contents c.args.files.now c.args.request.now.image.now) (g.I.Source.remaining c.args.input.now) reads before c.in-Ok.loaded c.in-Err-read_input.answer c.if-request.false c.in-Ok.ensures.reads c.in-Err-read_input.ensures.reads)
+
+pub returns-clause-read_fault : goal.returns-clause-read_fault
+returns-clause-read_fault g c = λ h. (
+  no_bench c.args.request.now.task c.in_default.not-Bench,
+  inr (record {
+    wanted = c.if-request.false;
+    rose = counted-read Bytes _ _ c.in-Err-read_input.answer c.plain-in-Err-read_input.result c.in-Err-read_input.ensures.counted c.plain-in-Err-read_input.ensures h;
+    files_calm = c.in-Ok.ensures.counted;
+    file = c.in-Ok.ensures.reads.0;
+    file_told = c.in-Ok.ensures.reads.1;
+    image = image_of_loaded c.in-Ok.loaded;
+    loads = c.in-Ok.ensures.reads.2;
+  }),
+)
 
 pub returns-clause-early : goal.returns-clause-early
 returns-clause-early g c = λ h. absurd (late-input (g.I.Source.remaining c.args.input.now) c.in-Err-read_input.answer c.plain-in-Err-read_input.result c.in-Err-read_input.ensures.reads c.plain-in-Err-read_input.ensures h)

@@ -1,6 +1,7 @@
 use Rattle.std.proofs.Common.{ap, ◌∙◌}
 use Rattle.guest_streams.specs.GuestStreams.{Sinks}
 use Rattle.fasttrack_program.specs.Serving.{with_history}
+use Rattle.fasttrack_program.proofs.OnHistories.{read_fault-served}
 use Rattle.fasttrack_program.proofs.OnPlans.{answered}
 use Rattle.fasttrack_program.proofs.top.plain_main.Goals as goal
 
@@ -12,3 +13,6 @@ returns-clause-answered g c =
     answered _ _ (g.I.Source.remaining c.args.input.now) _ between (g.N.Sink.contents c.conclude-answer.new.notes) (g.N.Sink.faults c.conclude-answer.new.notes) c.args.told.now c.hand_out.new.histories.items served c.conclude-answer.result
     c.in_ok-answer.ensures.served c.conclude-answer.ensures
     (c.hand_out.ensures ∙ ap (λ xs. with_history xs served.history c.conclude-answer.result) (calls.ensures.items ∙ c.told.view_is))
+
+pub returns-clause-read_fault : goal.returns-clause-read_fault
+returns-clause-read_fault g c = λ h. c.in_ok-answer.ensures.read_fault (read_fault-served _ _ _ _ c.in_ok-answer.field-0.answer c.conclude-answer.result c.conclude-answer.ensures h)
