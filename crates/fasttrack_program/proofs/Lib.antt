@@ -1,3 +1,4 @@
+pub mod OnBenches
 pub mod OnHistories
 pub mod OnImages
 pub mod OnLines
