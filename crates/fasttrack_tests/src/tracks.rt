@@ -151,6 +151,44 @@ fn words_that_are_refused(rt: HostRuntime) -> Result<(), Fail> {
     Ok(())
 }
 
+/// Options that a command doesn't use are accepted, and change nothing.
+#[test]
+fn options_without_use(rt: HostRuntime) -> Result<(), Fail> {
+    let image = image_of(rt.alloc(), &SUM)?;
+    let rows: [(&[&str], &[&str], Answer); 2] = [
+        (
+            &["alone", "g"],
+            &["alone", "g", "--report", "--journal", "--tracks", "1"],
+            Answer::Exited(55),
+        ),
+        (
+            &["trial", "g"],
+            &["trial", "g", "--report", "--journal", "--tracks", "1"],
+            Answer::Shown,
+        ),
+    ];
+    for (few, more, answer) in rows {
+        let bare = call(
+            rt.alloc(),
+            &Given {
+                words: few,
+                ..plain(image.as_slice(), b"")
+            },
+        )?;
+        let got = call(
+            rt.alloc(),
+            &Given {
+                words: more,
+                ..plain(image.as_slice(), b"")
+            },
+        )?;
+        assert!(rt; bare.answer == answer && got.answer == answer);
+        assert!(rt; got.out.as_slice() == bare.out.as_slice());
+        assert!(rt; got.notes.is_empty() && got.told.as_slice().is_empty());
+    }
+    Ok(())
+}
+
 /// The answers of `run` where one call of one object fails.
 #[test]
 fn each_failure_in_turn(rt: HostRuntime) -> Result<(), Fail> {
