@@ -69,7 +69,7 @@ unfolding bytes_at
 bytes_at-like ix es jx fs p h = ap (λ (o : Option Entry). option_map (λ (x : Entry). page_bytes x.page) o) h
 
 -- an entry added at the end, for page p
-module _ (ix : List ℕ) (es : List Entry) (p : ℕ) (y : Entry) (table : length ix ≡ 1048576) (below : p < 1048576) (few : length es ≤ p)
+module _ (ix : List ℕ) (es : List Entry) (p : ℕ) (y : Entry) (table : length ix ≤ 1048576) (below : p < length ix) (few : length es ≤ p)
     (places : (q place : ℕ) → slice_get ix q ≡ Some place → length es ≤ place → place ≡ 4294967295) where
   entry_at-push_same : entry_at (set ix p (length es)) (es ++ y ∷ []) p ≡ Some y
   entry_at-push_same = entry_at-there (set ix p (length es)) (es ++ y ∷ []) p (length es) (slice_get-set_at ix p (length es) (omega arith)) ∙ slice_get-push_end es y

@@ -3,6 +3,7 @@ use Rattle.std.proofs.Common.{◌≡◌, ℕ, ◌+◌, ◌/◌, ◌%◌, ◌<◌
 use Rattle.std.specs.Prelude.{slice_get, slice_range, option_map, option_and_then}
 use Rattle.std.specs.Option.{option_map_or}
 use Rattle.std.proofs.Math.ListN.{set}
+use Rattle.std.proofs.lemmas.List.{length-replicate}
 use Rattle.std.proofs.lemmas.Bool.{cases_eq, eqb-true, false≢true}
 use Rattle.std.proofs.lemmas.Bool.Decides.{nat_tests}
 use Rattle.std.proofs.lemmas.Option.{slice_get_within, get_or_from_slice_get, slice_get_read, none-some, same_Some}
@@ -15,7 +16,7 @@ use Rattle.paged_image.specs.Pages.{entry_at, bytes_at, own_at, paged, OwnIsWrit
 use Rattle.paged_image.specs.Image.{content}
 use Rattle.paged_image.specs.Changes.{Grows, page_of, owns, Advances}
 use Rattle.paged_image.specs.declared.owner.Owner.{Owner}
-use Rattle.paged_image.specs.declared.owner.Owner.TheVariants.{Own, Shared}
+use Rattle.paged_image.specs.declared.owner.Owner.TheVariants.{Own, Shared, Blank}
 use Rattle.paged_image.specs.declared.entry.Entry.{Entry}
 use Rattle.paged_image.specs.declared.image.PagedImage.{PagedImage}
 use Rattle.paged_image.proofs.OnPages.{IsTable, Replaces, paged-same, mapped-page, bytes_from-page, write-page}
@@ -24,6 +25,7 @@ use Rattle.paged_image.proofs.OnEntries.{own_written-set, own_written-more, entr
 pub length-page_bytes : (o : Owner) → length (page_bytes o) ≡ 4096
 length-page_bytes (Own page) = page.value.whole
 length-page_bytes (Shared page) = page.value.value.whole
+length-page_bytes Blank = length-replicate {A = ℕ} 4096 0
 
 -- an unmapped page has no bytes; a mapped one has those of its entry
 bytes_at-some : (ix : List ℕ) (es : List Entry) (p : ℕ) (bytes : List ℕ) → bytes_at ix es p ≡ Some bytes → (place : ℕ) × (e : Entry) × (slice_get ix p ≡ Some place) × (slice_get es place ≡ Some e) × (page_bytes e.page ≡ bytes)

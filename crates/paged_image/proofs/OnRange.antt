@@ -118,6 +118,3 @@ page-some t number bytes h = record {
 
 pub page-none : (t : PagedImage) (number : ℕ) → page_of t number ≡ None → LacksPage (content t) number
 page-none t number h k l = byte-absent t (number * 4096 + k) number h (omega arith)
-
-pub page-past : (t : PagedImage) (number : ℕ) → 1048576 ≤ number → LacksPage (content t) number
-page-past t number h k l = content-bounded t (number * 4096 + k) (omega arith)

@@ -1,8 +1,10 @@
-ghost use Rattle.std.specs.Prelude.{◌≡◌, length};
+ghost use Rattle.std.specs.Prelude.{◌≡◌, ◌+◌, ◌*◌, ◌≤◌, length, All};
+ghost use Rattle.guest_model.specs.AreaMap.{IsLayout};
 ghost use Rattle.paged_image.specs.Pages.{Finds, OwnIsWritten};
 
 use crate::builder::Builder;
 use crate::entry::Entry;
+use crate::page::PAGE_BYTES;
 use crate::write_set::WriteSet;
 use basic_types::NoMemory;
 use guest_model::Area;
@@ -25,19 +27,19 @@ use snapshot::share_all;
 #[derive(Drop)]
 pub struct PagedImage {
     alloc: Global,
-    /// For each page number a place in `entries`, or a number past its end where the page is unmapped. It never
-    /// changes, and all snapshots share it.
+    /// For each page number up to the last mapped one a place in `entries`, or a number past its end where the page is
+    /// unmapped. It never changes, and all snapshots share it.
     index: Arc<Vec<u32>>,
     entries: Vec<Entry>,
     written: WriteSet,
-    ghost table: { length index.value.items ≡ 1048576 },
+    ghost table: { length index.value.items ≤ 1048576 },
     ghost finds: { Finds index.value.items entries.items },
     ghost own_written: { OwnIsWritten entries.items written },
 }
 
 impl PagedImage {
     ghost use Rattle.std.specs.Prelude.{ℕ, true, [], IfOk};
-    ghost use Rattle.guest_model.specs.AreaMap.{areas_bytes, IsLayout};
+    ghost use Rattle.guest_model.specs.AreaMap.{areas_bytes};
     ghost use Rattle.paged_image.specs.Image.{content, written_of, owned_of, owns_page};
     ghost use Rattle.paged_image.specs.WriteSet.{has};
 
@@ -49,7 +51,7 @@ impl PagedImage {
         requires { IsLayout areas.now }
         ensures { IfOk result (λ t. (content t ≡ areas_bytes areas.now) × (written_of t ≡ []) × (owned_of t ≡ 0)) }
     {
-        let mut builder = Builder::new(alloc)?;
+        let mut builder = Builder::new(alloc, end_page(areas))?;
         for area in areas {
             builder.push_area(area)?;
         }
@@ -88,5 +90,17 @@ impl PagedImage {
             .iter()
             .filter(|entry| entry.page.is_own())
             .count() as u64
+    }
+}
+
+/// The number of the page behind the last area, 0 where there is none.
+fn end_page(areas: &[Area]) -> usize
+    requires { IsLayout areas.now }
+    ensures space { result ≤ 1048576 }
+    ensures behind { All (λ x. x.base + length x.bytes ≤ result * 4096) areas.now }
+{
+    match areas.last() {
+        Some(area) => (area.base as usize + area.bytes.len()) / PAGE_BYTES,
+        None => 0,
     }
 }

@@ -1,4 +1,5 @@
-ghost use Rattle.std.specs.Prelude.{◌≡◌, ◌+◌, ◌≤◌, true, false, length, MatchBool, OnOk, OnErr, IfOk, IfSome, IfNone};
+ghost use Rattle.std.specs.Prelude.{◌≡◌, ◌+◌, ◌≤◌, true, false, length, slice_range, MatchBool, OnOk, OnErr, IfOk, IfSome, IfNone};
+ghost use Rattle.paged_image.specs.Owner.{page_bytes, is_own, overwritten};
 
 use crate::page::Page;
 use basic_types::NoMemory;
@@ -6,24 +7,37 @@ use core::mem;
 use std::alloc::Global;
 use std::sync::Arc;
 
+/// The bytes of a blank page.
+pub static ZEROS: [u8; 4096] = [0; 4096];
+
 /// Who may write a page: the one image that owns it, or none of the images that share it.
 #[derive(Drop)]
 pub enum Owner {
     Own(Box<Page>),
     Shared(Arc<Box<Page>>),
+    /// A page of zeros, which takes no memory and has no count of owners.
+    Blank,
 }
 
 impl Owner {
-    ghost use Rattle.paged_image.specs.Owner.{page_bytes, is_own, overwritten};
-
     #[inline]
-    pub fn page(&self) -> &Page
-        ensures { result.now.bytes ≡ page_bytes self.now }
+    pub fn bytes(&self) -> &[u8; 4096]
+        ensures { result.now ≡ page_bytes self.now }
     {
         match self {
-            Owner::Own(page) => page,
-            Owner::Shared(page) => page,
+            Owner::Own(page) => &page.bytes,
+            Owner::Shared(page) => &page.bytes,
+            Owner::Blank => &ZEROS,
         }
+    }
+
+    /// The `n` bytes from `offset` on.
+    #[inline]
+    pub fn piece(&self, offset: usize, n: usize) -> &[u8]
+        requires { offset + n ≤ 4096 }
+        ensures { result.now ≡ slice_range (page_bytes self.now) offset (offset + n) }
+    {
+        &self.bytes()[offset..offset + n]
     }
 
     #[inline]
@@ -32,7 +46,7 @@ impl Owner {
     {
         match self {
             Owner::Own(_) => true,
-            Owner::Shared(_) => false,
+            Owner::Shared(_) | Owner::Blank => false,
         }
     }
 
@@ -49,7 +63,7 @@ impl Owner {
                 page.overwrite(offset, from);
                 true
             }
-            Owner::Shared(_) => false,
+            Owner::Shared(_) | Owner::Blank => false,
         }
     }
 
@@ -64,7 +78,7 @@ impl Owner {
         ensures ok { OnOk result (is_own self.new ≡ true) }
         ensures err { OnErr result (self.new ≡ self.old) }
     {
-        let own = Box::new(alloc, *self.page())?;
+        let own = Box::new(alloc, Page { bytes: *self.bytes() })?;
         *self = Owner::Own(own);
         Ok(())
     }
@@ -83,29 +97,40 @@ impl Owner {
             alloc,
             |owner: Owner, alloc: Global| owner.into_shared(alloc),
         ) {
-            Some(other) => Ok(Owner::Shared(other)),
+            Some(other) => Ok(other),
             None => Err(NoMemory),
         }
     }
 
     /// The page shared, and one more owner of it where there is room for that.
-    fn into_shared(self, alloc: Global) -> (Owner, Option<Arc<Box<Page>>>)
+    fn into_shared(self, alloc: Global) -> (Owner, Option<Owner>)
         ensures bytes { page_bytes result.0 ≡ page_bytes self }
-        ensures other { IfSome result.1 (λ other. (is_own result.0 ≡ false) × (other.value.value.bytes ≡ page_bytes self)) }
+        ensures other { IfSome result.1 (λ other. (is_own result.0 ≡ false) × (is_own other ≡ false) × (page_bytes other ≡ page_bytes self)) }
         ensures none { IfNone result.1 (is_own result.0 ≡ true → is_own self ≡ true) }
     {
         match self {
             Owner::Own(page) => match Arc::new(alloc, page) {
                 Ok(shared) => {
-                    let other = Arc::try_clone(&shared).ok();
+                    let other = one_more(&shared);
                     (Owner::Shared(shared), other)
                 }
                 Err(failed) => (Owner::Own(failed.value), None),
             },
             Owner::Shared(shared) => {
-                let other = Arc::try_clone(&shared).ok();
+                let other = one_more(&shared);
                 (Owner::Shared(shared), other)
             }
+            Owner::Blank => (Owner::Blank, Some(Owner::Blank)),
         }
+    }
+}
+
+/// One more owner of a shared page, where there is room for its count.
+fn one_more(shared: &Arc<Box<Page>>) -> Option<Owner>
+    ensures { IfSome result (λ other. (is_own other ≡ false) × (page_bytes other ≡ shared.now.value.value.bytes)) }
+{
+    match Arc::try_clone(shared) {
+        Ok(other) => Some(Owner::Shared(other)),
+        Err(_) => None,
     }
 }

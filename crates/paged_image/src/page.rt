@@ -1,4 +1,4 @@
-ghost use Rattle.std.specs.Prelude.{◌≡◌, ◌+◌, ◌≤◌, ◌++◌, length, take, drop, slice_range};
+ghost use Rattle.std.specs.Prelude.{◌≡◌, ◌+◌, ◌≤◌, ◌++◌, length, take, drop};
 
 /// The bytes of one page.
 pub const PAGE_BYTES: usize = 4096;
@@ -19,15 +19,6 @@ impl Page {
         let mut bytes = [0; 4096];
         bytes.copy_from_slice(from);
         Page { bytes }
-    }
-
-    /// The `n` bytes from `offset` on.
-    #[inline]
-    pub fn piece(&self, offset: usize, n: usize) -> &[u8]
-        requires { offset + n ≤ 4096 }
-        ensures { result.now ≡ slice_range self.now.bytes offset (offset + n) }
-    {
-        &self.bytes[offset..offset + n]
     }
 
     /// Puts the bytes of `from` in place of as many bytes from `offset` on.

@@ -16,12 +16,11 @@ impl PagedImage {
     #[inline]
     #[tactic(auto, unfolding(crate::specs::Pages::entry_at))]
     pub(super) fn place_of(&self, number: u32) -> Option<usize>
-        requires { number < 1048576 }
         ensures absent { IfNone result (entry_at self.now.index.value.items self.now.entries.items number ≡ None) }
         ensures index { IfSome result (λ place. slice_get self.now.index.value.items number ≡ Some place) }
         ensures within { IfSome result (λ place. place < length self.now.entries.items) }
     {
-        let place = self.index[number as usize] as usize;
+        let place = *self.index.get(number as usize)? as usize;
         if place < self.entries.len() {
             Some(place)
         } else {
@@ -33,20 +32,19 @@ impl PagedImage {
     #[inline]
     #[tactic(auto, unfolding(crate::specs::Pages::entry_at))]
     pub(super) fn entry(&self, number: u32) -> Option<&Entry>
-        requires { number < 1048576 }
         ensures { option_copied result ≡ entry_at self.now.index.value.items self.now.entries.items number }
     {
-        self.entries.get(self.index[number as usize] as usize)
+        let place = *self.index.get(number as usize)?;
+        self.entries.get(place as usize)
     }
 
     /// The bytes of a page, None where the page is unmapped.
     #[inline]
     pub(super) fn page_bytes(&self, number: u32) -> Option<&[u8]>
-        requires { number < 1048576 }
         ensures { option_copied result ≡ bytes_at self.now.index.value.items self.now.entries.items number }
     {
         let entry = self.entry(number)?;
-        Some(entry.page.page().bytes.as_slice())
+        Some(entry.page.bytes().as_slice())
     }
 
     /// The bytes of the page with this number, whose first address is `number * 4096`; None where it is unmapped.
@@ -54,17 +52,12 @@ impl PagedImage {
         ensures none { IfNone result (LacksPage (content self.now) number) }
         ensures some { IfSome result (λ bytes. IsPage (content self.now) number bytes.now) }
     {
-        if number < 1 << 20 {
-            self.page_bytes(number)
-        } else {
-            None
-        }
+        self.page_bytes(number)
     }
 
     /// The page is mapped.
     #[inline]
     pub(super) fn has_page(&self, number: u32) -> bool
-        requires { number < 1048576 }
         ensures { result ≡ is_some (page_of self.now number) }
     {
         self.page_bytes(number).is_some()
@@ -81,7 +74,7 @@ impl PagedImage {
             return None;
         }
         let entry = self.entry(a / 4096)?;
-        Some(entry.page.page().piece(offset, n))
+        Some(entry.page.piece(offset, n))
     }
 
     /// The `n` addresses from `a` on are below 2^32 and mapped.

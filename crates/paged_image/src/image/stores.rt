@@ -37,7 +37,6 @@ impl PagedImage {
     #[cold]
     #[inline(never)]
     fn own_page(&mut self, number: u32) -> Result<(), NoMemory>
-        requires { number < 1048576 }
         ensures bytes { (p : ℕ) → page_of self.new p ≡ page_of self.old p }
         ensures advances { Advances (λ p. p == number) self.old self.new }
         ensures own { OnOk result (is_some (page_of self.old number) ≡ true → owns self.new number ≡ true) }

@@ -1,3 +1,4 @@
+use Rattle.std.proofs.Common.{arith}
 use Rattle.paged_image.proofs.OnBuilder.{finds-nil}
 use Rattle.paged_image.proofs.builder.Builder.new.Goals as goal
 
@@ -5,7 +6,7 @@ pub invariant_of-result : goal.invariant_of-result
 invariant_of-result c =
     let index = c.in_ok-index.ensures in
     record {
-      table = index.0;
+      table = omega (arith, index.0);
       finds = finds-nil c.in_ok-index.index.items c.new.result.items c.new.ensures.items;
       places = λ p place h l. index.1 p place h;
     }

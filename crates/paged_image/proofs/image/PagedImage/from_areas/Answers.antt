@@ -15,8 +15,8 @@ pub loop-area-init : goal.loop-area-init
 unfolding built
 loop-area-init c =
     let b = c.in_ok-builder.builder in (
-      paged-nil b.index.items b.entries.items c.in_ok-builder.ensures,
-      λ k d l r. omega (arith, ap length c.in_ok-builder.ensures),
+      paged-nil b.index.items b.entries.items c.in_ok-builder.ensures.0,
+      λ k d l r. omega (arith, ap length c.in_ok-builder.ensures.0),
     )
 
 pub loop-area-preserved : goal.loop-area-preserved
@@ -40,7 +40,7 @@ invariant_of-result c =
     let entries = c.share_all.new.entries.items in
     let index = c.in_ok-new.ensures.ok in
     record {
-      table = ap (λ (v : Vec ℕ Global). length v.items) index ∙ b.table;
+      table = omega (arith, ap (λ (v : Vec ℕ Global). length v.items) index, b.table);
       finds = subst (λ (v : Vec ℕ Global). Finds v.items entries) (sym index) (finds-faces b.index.items b.entries.items entries c.share_all.ensures.faces b.finds);
       own_written = own_written-none entries _ c.in_ok-_others.ensures.shared;
     }

@@ -10,4 +10,4 @@ returns-in_err-entry c =
 pub returns : goal.returns
 returns c =
     let s = c.args.self.now in
-    ap Some (c.as_slice.ensures ∙ c.page.ensures) ∙ sym (bytes_at-there s.index.value.items s.entries.items c.args.number c.in_ok-entry.entry.now (sym c.in_ok-entry.ensures))
+    ap Some (c.as_slice.ensures ∙ c.bytes.ensures) ∙ sym (bytes_at-there s.index.value.items s.entries.items c.args.number c.in_ok-entry.entry.now (sym c.in_ok-entry.ensures))

@@ -1,4 +1,4 @@
-use Rattle.std.proofs.Common.{◌≡◌, ℕ, List, length, refl, sym, ◌∙◌, ap, subst, Vec, Global}
+use Rattle.std.proofs.Common.{◌≡◌, ℕ, List, length, refl, sym, ◌∙◌, ap, subst, arith, Vec, Global}
 use Rattle.paged_image.specs.Pages.{Finds, paged, bytes_at}
 use Rattle.paged_image.specs.Image.{content, written_of, owned_of}
 use Rattle.paged_image.proofs.OnFaces.{finds-faces, paged-faces, own_written-grows, own_written-none, own_count-none, own_count-shrinks, on_err_always}
@@ -38,7 +38,7 @@ invariant_of-result c =
     let s = c.args.self.now in
     let same : c.in_ok-index.index.value.items ≡ s.index.value.items = ap (λ (v : Vec ℕ Global). v.items) c.in_ok-index.ensures in
     record {
-      table = ap length same ∙ s.table;
+      table = omega (arith, ap length same, s.table);
       finds = subst (λ (ix : List ℕ). Finds ix c.in_ok-entries.entries.items) (sym same)
           (finds-faces s.index.value.items s.entries.items c.in_ok-entries.entries.items c.in_ok-entries.ensures.others.0 s.finds);
       own_written = own_written-none c.in_ok-entries.entries.items _ c.in_ok-entries.ensures.others.1;
