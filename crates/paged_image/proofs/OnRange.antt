@@ -8,7 +8,7 @@ use borrow.Rule.Slice.PartMut.{put_mid}
 use Rattle.guest_model.specs.ByteMap.{ByteMap, byte, mapped, bytes_from, write}
 use Rattle.guest_model.proofs.OnByteMap.{mapped-all, mapped-absent, mapped-at, bytes_from-fill, bytes_from-at, length-bytes_from, write-is, write-inside, write-outside}
 use Rattle.paged_image.specs.Pages.{IsPage, LacksPage}
-use Rattle.paged_image.specs.Image.{content, content-bounded}
+use Rattle.paged_image.specs.Image.{content}
 use Rattle.paged_image.specs.Changes.{page_of}
 use Rattle.paged_image.specs.declared.image.PagedImage.{PagedImage}
 use Rattle.paged_image.proofs.OnPages.{paged-at, paged-none}

@@ -78,7 +78,12 @@ impl Owner {
         ensures ok { OnOk result (is_own self.new ≡ true) }
         ensures err { OnErr result (self.new ≡ self.old) }
     {
-        let own = Box::new(alloc, Page { bytes: *self.bytes() })?;
+        let own = Box::new(
+            alloc,
+            Page {
+                bytes: *self.bytes(),
+            },
+        )?;
         *self = Owner::Own(own);
         Ok(())
     }

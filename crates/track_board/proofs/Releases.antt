@@ -187,6 +187,15 @@ no-bytes : (bytes : List Mark) → (length bytes == 0) ≡ true → bytes ≡ []
 no-bytes [] h = refl
 no-bytes (m ∷ ms) h = absurd (let none = eqb-true (length (m ∷ ms)) 0 h in omega arith)
 
+left-nil : (xs ys : List Mark) → length (xs ++ ys) ≡ 0 → xs ≡ []
+left-nil [] ys h = refl
+left-nil (x ∷ xs) ys h = absurd (omega (arith, length-append (x ∷ xs) ys))
+
+-- where nothing was copied, no part has a verified byte
+pub ready-none : (bytes : List Mark) (xs ys : List Ready) (n : ℕ) (s : Slot) → bytes ≡ ready_marks xs ++ slot_marks n s → xs ≡ ys → (length bytes == 0) ≡ true → ready_marks ys ≡ []
+ready-none bytes xs ys n s is same h =
+    ap ready_marks (sym same) ∙ left-nil (ready_marks xs) (slot_marks n s) (ap length (sym is) ∙ ap length (no-bytes bytes h))
+
 -- nothing is verified
 pub released-none : (v : Posted) (bytes : List Mark) → (length bytes == 0) ≡ true → v ≡ released_with v bytes
 released-none v bytes h = sym (ap (released_with v) (no-bytes bytes h))

@@ -1,6 +1,6 @@
 -- Room that was made, and a track that contracts see as before, leave what the fields stand for.
 use Rattle.std.proofs.lemmas.List.{length-map}
-use Rattle.std.proofs.Common.{◌≡◌, ℕ, ◌≤◌, Bool, true, false, List, [], ◌∷◌, length, suc, ◌^◌, vec_len, vec_capacity, refl, sym, ap, ◌∙◌, subst, arith}
+use Rattle.std.proofs.Common.{◌≡◌, ℕ, ◌≤◌, Bool, true, false, List, [], ◌∷◌, length, suc, ◌^◌, vec_len, vec_capacity, Vec, Global, refl, sym, ap, ◌∙◌, subst, arith}
 use Rattle.speculation.specs.declared.history.Entry.{Entry}
 use Rattle.speculation.specs.Core.{Track as CoreTrack, Region as CoreRegion, lead_home}
 use Rattle.guest_model.specs.MachineState.{MachineState}
@@ -11,6 +11,7 @@ use Rattle.track_state.specs.Views.{TrackView, view_of, core_track}
 use Rattle.track_state.specs.Runs.{RunsOver}
 use Rattle.track_state.specs.declared.track.Track.{Track}
 use Rattle.track_board.specs.declared.board.Board.TheInside.{Inside}
+use Rattle.track_board.specs.declared.ready.Ready.{Ready}
 use Rattle.track_board.specs.declared.region.Region.{Region}
 use Rattle.track_board.specs.declared.slot.Slot.{Slot}
 use Rattle.track_board.specs.declared.slot.Slot.TheVariants.{Home, Away}
@@ -56,6 +57,28 @@ spared i j k h s = record {
     entries = omega (arith, i.entries.ok.0, j.entries.ok.0, ap length s.entries, s.capacity, h.room.entries);
     names = omega (arith, i.rows.ok.0, j.rows.ok.0, ap length s.rows, ap length s.nodes, s.made, h.room.names);
   };
+}
+
+-- parts of verified output that have no byte are dropped
+pub without_ready : (i : Inside) (k : GuestCore) (ready : Vec Ready Global) → StandsFor i k → ready_marks i.ready.items ≡ [] → ready.items ≡ [] → StandsFor (record i { ready = ready }) k
+without_ready i k ready h none dropped = record {
+  limits = h.limits;
+  guest = h.guest;
+  legal = h.legal;
+  fields = record {
+    base = h.fields.base;
+    ready = ap ready_marks dropped ∙ sym none ∙ h.fields.ready;
+    rows = h.fields.rows;
+    generation = h.fields.generation;
+    last = h.fields.last;
+    regions = h.fields.regions;
+    lead = h.fields.lead;
+    loans = h.fields.loans;
+    keys = h.fields.keys;
+    finish = h.fields.finish;
+    halted = h.fields.halted;
+  };
+  room = record { entries = h.room.entries; names = h.room.names };
 }
 
 pub track-again : (input : List ℕ) (limit : ℕ) (x y : Track) (home : Bool) (t : CoreTrack MachineState) → view_of y ≡ view_of x → TrackStands input limit x home t → TrackStands input limit y home t

@@ -45,6 +45,8 @@ impl Board {
             limit,
         )?;
         if bytes.is_empty() {
+            // Parts without a verified byte: each later call would go through them again.
+            self.ready.clear();
             return Ok(bytes);
         }
         // Room for this entry and for those that end each loan and the run.

@@ -55,6 +55,32 @@ fn a_store_after_a_snapshot_is_seen_in_one_image(rt: HostRuntime) -> Result<(), 
 }
 
 #[test]
+fn pages_of_zeros_beside_another(rt: HostRuntime) -> Result<(), Fail> {
+    let mut bytes = zeros(rt.alloc(), 12288)?;
+    bytes[4096] = 7;
+    let mut areas = Vec::new(rt.alloc());
+    areas.push(Area {
+        base: 0x10000,
+        bytes: Bytes::from_vec(bytes),
+    })?;
+    let mut image = PagedImage::from_areas(rt.alloc(), &areas)?;
+    assert_eq!(rt;
+        (image.load32(0x10FFE), image.owned()),
+        (Some(0x0007_0000), 0)
+    );
+    let taken = image.snapshot()?;
+    assert_eq!(rt; image.store16(0x11FFF, 0x0908), Ok(()));
+    assert_eq!(rt; image.load32(0x11FFE), Some(0x0009_0800));
+    assert_eq!(rt;
+        (taken.load32(0x11FFE), taken.load8(0x11000)),
+        (Some(0), Some(7))
+    );
+    assert_eq!(rt; (image.owned(), taken.owned()), (2, 0));
+    assert_eq!(rt; (image.load8(0x13000), image.load8(0xFFFF)), (None, None));
+    Ok(())
+}
+
+#[test]
 fn ranges_over_edges(rt: HostRuntime) -> Result<(), Fail> {
     // two pages at each end of the address space
     for base in [0, 0xFFFF_E000] {
