@@ -44,10 +44,10 @@ pub fn plain<'a>(image: &'a [u8], input: &'a [u8]) -> Given<'a> {
     }
 }
 
-/// The small image of these words.
+/// The small image of these words, at most a thousand.
 pub fn image_of(alloc: Global, words: &[u32]) -> Result<Bytes, Fail> {
     if words.len() > 1000 {
-        return Ok(Bytes::new(alloc));
+        return Err(Fail::new("the program has more than a thousand words"));
     }
     Ok(small_image(alloc, words)?)
 }

@@ -1,13 +1,15 @@
 //! Words that are refused, objects that fail, and limits.
 
 use crate::call::{Given, call, image_of, plain};
-use crate::programs::{ECHO, TWO_STREAMS};
+use crate::guests::{ECHO, EXIT, LOOP, TWO_STREAMS};
 use elf32_loader::ImageFault;
 use fasttrack_program::{Answer, status};
 use std::test::Fail;
 
+/// Words that are no call of the program.
 #[test]
-fn words_and_budget(rt: HostRuntime) -> Result<(), Fail> {
+fn refused_words(rt: HostRuntime) -> Result<(), Fail> {
+    let image = image_of(rt.alloc(), &EXIT)?;
     let refused: [&[&str]; 5] = [
         &[],
         &["alone"],
@@ -15,7 +17,6 @@ fn words_and_budget(rt: HostRuntime) -> Result<(), Fail> {
         &["alone", "g", "--budget", "0"],
         &["--help"],
     ];
-    let image = image_of(rt.alloc(), &[0x0000_006F])?;
     for words in refused {
         let got = call(
             rt.alloc(),
@@ -29,32 +30,39 @@ fn words_and_budget(rt: HostRuntime) -> Result<(), Fail> {
             got.out.is_empty() && got.notes.as_slice() == b"fasttrack: bad words\n".as_slice()
         );
     }
-    let spent = call(
-        rt.alloc(),
-        &Given {
-            words: &["alone", "g", "--budget", "5"],
-            ..plain(image.as_slice(), b"")
-        },
-    )?;
-    assert!(rt; spent.answer == Answer::Spent && status(&spent.answer) == 241);
-    assert!(rt; spent.notes.as_slice() == b"fasttrack: budget spent\n".as_slice());
-    let two = image_of(rt.alloc(), &TWO_STREAMS)?;
-    let cut = call(
-        rt.alloc(),
-        &Given {
-            words: &["alone", "g", "--budget", "7"],
-            ..plain(two.as_slice(), b"")
-        },
-    )?;
-    assert!(rt; cut.answer == Answer::Spent && cut.out.as_slice() == b"\x13".as_slice());
-    assert!(rt; cut.notes.as_slice() == b"fasttrack: budget spent\n".as_slice());
-    let unread = image_of(rt.alloc(), &ECHO)?;
+    Ok(())
+}
+
+/// A program that never ends, and one whose second write comes behind the budget.
+#[test]
+fn spent_budgets(rt: HostRuntime) -> Result<(), Fail> {
+    let rows: [(&[u32], &str, &[u8]); 2] = [(&LOOP, "5", b""), (&TWO_STREAMS, "7", b"\x13")];
+    for (words, budget, out) in rows {
+        let image = image_of(rt.alloc(), words)?;
+        let got = call(
+            rt.alloc(),
+            &Given {
+                words: &["alone", "g", "--budget", budget],
+                ..plain(image.as_slice(), b"")
+            },
+        )?;
+        assert!(rt; got.answer == Answer::Spent && status(&got.answer) == 241);
+        assert!(rt; got.out.as_slice() == out);
+        assert!(rt; got.notes.as_slice() == b"fasttrack: budget spent\n".as_slice());
+    }
+    Ok(())
+}
+
+/// With `--no-input` the input, which would fail, is left alone.
+#[test]
+fn unread_input(rt: HostRuntime) -> Result<(), Fail> {
+    let image = image_of(rt.alloc(), &ECHO)?;
     let quiet = call(
         rt.alloc(),
         &Given {
             words: &["alone", "g", "--no-input"],
             failing_input: &[0],
-            ..plain(unread.as_slice(), b"abc")
+            ..plain(image.as_slice(), b"abc")
         },
     )?;
     assert!(rt; quiet.answer == Answer::Exited(0) && quiet.out.is_empty());
@@ -117,6 +125,7 @@ fn notes_that_fail(rt: HostRuntime) -> Result<(), Fail> {
         },
     )?;
     assert!(rt; stream.answer == Answer::WriteFault && stream.out.as_slice() == b"\x13".as_slice());
+    // No instruction.
     let trap = image_of(rt.alloc(), &[0])?;
     let line = call(
         rt.alloc(),
@@ -139,7 +148,7 @@ fn notes_that_fail(rt: HostRuntime) -> Result<(), Fail> {
 
 #[test]
 fn limits(rt: HostRuntime) -> Result<(), Fail> {
-    let exit = image_of(rt.alloc(), &[0x0000_0513, 0x05D0_0893, 0x0000_0073])?;
+    let exit = image_of(rt.alloc(), &EXIT)?;
     let most = vec![in rt.alloc(); 0u8; 16_777_216]?;
     let full = call(rt.alloc(), &plain(exit.as_slice(), most.as_slice()))?;
     assert!(rt; full.answer == Answer::Exited(0));

@@ -1,247 +1,92 @@
 //! Programs that run to an end of their own.
 
-use crate::call::{Given, call, image_of, plain};
+use crate::call::{Given, Got, call, image_of, plain};
+use crate::guests::{ECHO, EXIT, LAST_BREAK, MOVED_BREAK, ONE_BYTE, SUM, SUM_TWICE, TWO_STREAMS};
 use fasttrack_program::{Answer, status};
 use guest_model::Trap;
 use rv32_asm::generate;
 use std::alloc::Global;
-use std::process::Abort;
 use std::test::Fail;
 
-#[derive(Drop)]
-struct Row<'a> {
-    words: &'a [u32],
-    input: &'a [u8],
-    answer: Answer,
-    status: u8,
-    out: &'a [u8],
-    notes: &'a str,
-}
-
-/// A region whose original sums ten numbers to 55, with its fast version, and the exit with that sum.
-pub const SUM: [u32; 15] = [
-    0x7D00_0893,
-    0x0000_0073,
-    0x0005_1E63,
-    0x0000_0513,
-    0x00A0_0293,
-    0x0055_0533,
-    0xFFF2_8293,
-    0xFE02_9CE3,
-    0x00C0_006F,
-    0x0370_0513,
-    0x0000_0293,
-    0x7D10_0893,
-    0x0000_0073,
-    0x05D0_0893,
-    0x0000_0073,
-];
-
-/// The same region, and then two writes of the byte that the sum is.
-pub const SUM_TWICE: [u32; 24] = [
-    0x7D00_0893,
-    0x0000_0073,
-    0x0005_1E63,
-    0x0000_0513,
-    0x00A0_0293,
-    0x0055_0533,
-    0xFFF2_8293,
-    0xFE02_9CE3,
-    0x00C0_006F,
-    0x0370_0513,
-    0x0000_0293,
-    0x7D10_0893,
-    0x0000_0073,
-    0xFEA1_0FA3,
-    0x0010_0513,
-    0xFFF1_0593,
-    0x0010_0613,
-    0x0400_0893,
-    0x0000_0073,
-    0x0010_0513,
-    0x0000_0073,
-    0x0000_0513,
-    0x05D0_0893,
-    0x0000_0073,
-];
-
-/// Copies the input to the output, two bytes at a time.
-pub const ECHO: [u32; 13] = [
-    0x0000_0513,
-    0xFF01_0593,
-    0x0020_0613,
-    0x03F0_0893,
-    0x0000_0073,
-    0x0005_0C63,
-    0x0005_0613,
-    0x0010_0513,
-    0x0400_0893,
-    0x0000_0073,
-    0xFD9F_F06F,
-    0x05D0_0893,
-    0x0000_0073,
-];
-
-/// Writes the byte 13 (hexadecimal) to stream 1 and the byte 05 to stream 2.
-pub const TWO_STREAMS: [u32; 11] = [
-    0x0010_0513,
-    0x0001_05B7,
-    0x0010_0613,
-    0x0400_0893,
-    0x0000_0073,
-    0x0020_0513,
-    0x0015_8593,
-    0x0000_0073,
-    0x0000_0513,
-    0x05D0_0893,
-    0x0000_0073,
-];
-
-fn expected<'a>(
-    words: &'a [u32],
-    input: &'a [u8],
-    answer: Answer,
-    status: u8,
-    out: &'a [u8],
-    notes: &'a str,
-) -> Row<'a> {
-    Row {
-        words,
-        input,
-        answer,
-        status,
-        out,
-        notes,
-    }
-}
-
-fn check(rt: &impl Abort, alloc: Global, rows: &[Row<'_>]) -> Result<(), Fail> {
-    for row in rows {
-        let image = image_of(alloc, row.words)?;
-        let got = call(alloc, &plain(image.as_slice(), row.input))?;
-        assert!(rt; got.answer == row.answer);
-        assert!(rt; status(&got.answer) == row.status);
-        assert!(rt; got.out.as_slice() == row.out);
-        assert!(rt; got.notes.as_slice() == row.notes.as_bytes());
+/// Programs with their input, the code that they exit with, the status, and the bytes of stream 1 and of stream 2.
+#[test]
+fn exits(rt: HostRuntime) -> Result<(), Fail> {
+    let rows: [(&[u32], &[u8], u32, u8, &[u8], &[u8]); 9] = [
+        (&EXIT, b"", 0, 0, b"", b""),
+        (&ONE_BYTE, b"", 1, 1, b"\x13", b""),
+        (&SUM, b"", 55, 55, b"", b""),
+        (&SUM_TWICE, b"", 0, 0, b"77", b""),
+        (&ECHO, b"abc", 0, 0, b"abc", b""),
+        (&ECHO, b"", 0, 0, b"", b""),
+        (&TWO_STREAMS, b"", 0, 0, b"\x13", b"\x05"),
+        (&MOVED_BREAK, b"", 69648, 16, b"", b""),
+        (&LAST_BREAK, b"", 4263936, 0, b"", b""),
+    ];
+    for (words, input, code, number, out, notes) in rows {
+        let image = image_of(rt.alloc(), words)?;
+        let got = call(rt.alloc(), &plain(image.as_slice(), input))?;
+        assert!(rt; got.answer == Answer::Exited(code) && status(&got.answer) == number);
+        assert!(rt; got.out.as_slice() == out && got.notes.as_slice() == notes);
     }
     Ok(())
 }
 
-#[test]
-fn ends_of_their_own(rt: HostRuntime) -> Result<(), Fail> {
-    let exit = [0x0000_0513, 0x05D0_0893, 0x0000_0073];
-    let one_byte = [
-        0x0010_0513,
-        0x0001_05B7,
-        0x0010_0613,
-        0x0400_0893,
-        0x0000_0073,
-        0x05D0_0893,
-        0x0000_0073,
-    ];
-    let moved_break = [
-        0x0000_0513,
-        0x0D60_0893,
-        0x0000_0073,
-        0x0105_0513,
-        0x0000_0073,
-        0x05D0_0893,
-        0x0000_0073,
-    ];
-    let last_break = [
-        0x0000_0513,
-        0x0D60_0893,
-        0x0000_0073,
-        0x0040_02B7,
-        0x0055_0533,
-        0x0000_0073,
-        0x0015_0513,
-        0x0000_0073,
-        0x05D0_0893,
-        0x0000_0073,
-    ];
-    check(
-        &rt,
-        rt.alloc(),
-        &[
-            expected(&exit, b"", Answer::Exited(0), 0, b"", ""),
-            expected(&one_byte, b"", Answer::Exited(1), 1, b"\x13", ""),
-            expected(&SUM, b"", Answer::Exited(55), 55, b"", ""),
-            expected(&SUM_TWICE, b"", Answer::Exited(0), 0, b"77", ""),
-            expected(&ECHO, b"abc", Answer::Exited(0), 0, b"abc", ""),
-            expected(&ECHO, b"", Answer::Exited(0), 0, b"", ""),
-            expected(&TWO_STREAMS, b"", Answer::Exited(0), 0, b"\x13", "\x05"),
-            expected(&moved_break, b"", Answer::Exited(69648), 16, b"", ""),
-            expected(&last_break, b"", Answer::Exited(4263936), 0, b"", ""),
-        ],
-    )
-}
-
+/// Programs of one instruction, with the trap and the pc.
 #[test]
 fn traps(rt: HostRuntime) -> Result<(), Fail> {
-    check(
-        &rt,
-        rt.alloc(),
-        &[
-            expected(
-                &[0x02C5_C533],
-                b"",
-                Answer::Trapped(Trap::Illegal, 0x10004),
-                240,
-                b"",
-                "fasttrack: trap illegal at 00010004\n",
-            ),
-            expected(
-                &[0x0000_1163],
-                b"",
-                Answer::Trapped(Trap::Illegal, 0x10004),
-                240,
-                b"",
-                "fasttrack: trap illegal at 00010004\n",
-            ),
-            expected(
-                &[0x0020_006F],
-                b"",
-                Answer::Trapped(Trap::Misaligned, 0x10000),
-                240,
-                b"",
-                "fasttrack: trap misaligned at 00010000\n",
-            ),
-            expected(
-                &[0x0000_2503],
-                b"",
-                Answer::Trapped(Trap::LoadUnmapped, 0x10000),
-                240,
-                b"",
-                "fasttrack: trap load at 00010000\n",
-            ),
-            expected(
-                &[0x0000_2023],
-                b"",
-                Answer::Trapped(Trap::StoreUnmapped, 0x10000),
-                240,
-                b"",
-                "fasttrack: trap store at 00010000\n",
-            ),
-            expected(
-                &[0x0010_0073],
-                b"",
-                Answer::Trapped(Trap::Breakpoint, 0x10000),
-                240,
-                b"",
-                "fasttrack: trap breakpoint at 00010000\n",
-            ),
-            expected(
-                &[0x0000_0067],
-                b"",
-                Answer::Trapped(Trap::FetchUnmapped, 0),
-                240,
-                b"",
-                "fasttrack: trap fetch at 00000000\n",
-            ),
-        ],
-    )
+    let rows = [
+        // div a0, a1, a2
+        (0x02C5_C533, Trap::Illegal, 0x10004, "illegal at 00010004"),
+        // bnez zero, 2
+        (0x0000_1163, Trap::Illegal, 0x10004, "illegal at 00010004"),
+        // j 2
+        (
+            0x0020_006F,
+            Trap::Misaligned,
+            0x10000,
+            "misaligned at 00010000",
+        ),
+        // lw a0, 0(zero)
+        (0x0000_2503, Trap::LoadUnmapped, 0x10000, "load at 00010000"),
+        // sw zero, 0(zero)
+        (
+            0x0000_2023,
+            Trap::StoreUnmapped,
+            0x10000,
+            "store at 00010000",
+        ),
+        // ebreak
+        (
+            0x0010_0073,
+            Trap::Breakpoint,
+            0x10000,
+            "breakpoint at 00010000",
+        ),
+        // jr zero
+        (0x0000_0067, Trap::FetchUnmapped, 0, "fetch at 00000000"),
+    ];
+    for (word, trap, pc, told) in rows {
+        let image = image_of(rt.alloc(), &[word])?;
+        let got = call(rt.alloc(), &plain(image.as_slice(), b""))?;
+        assert!(rt; got.answer == Answer::Trapped(trap, pc) && status(&got.answer) == 240);
+        let line = format!(in rt.alloc(); "fasttrack: trap {told}\n")?;
+        assert!(rt; got.out.is_empty() && got.notes.as_slice() == line.as_bytes());
+    }
+    Ok(())
 }
+
+/// Writes the six bytes at 000110f8, and exits with the word at sp, 0.
+const HELLO: [u32; 9] = [
+    0x0010_0513, // li a0, 1
+    0x0001_15B7, // lui a1, 17
+    0x0F85_8593, // addi a1, a1, 248
+    0x0060_0613, // li a2, 6
+    0x0400_0893, // li a7, 64
+    0x0000_0073, // ecall
+    0x0001_2503, // lw a0, 0(sp)
+    0x05D0_0893, // li a7, 93
+    0x0000_0073, // ecall
+];
 
 /// An image with segments beside headers of other types, which says hello.
 fn five_headers(alloc: Global) -> Result<Vec<u8>, Fail> {
@@ -251,17 +96,6 @@ fn five_headers(alloc: Global) -> Result<Vec<u8>, Fail> {
         [1, 0xF8, 0x110F8, 6, 0x100],
         [4, 0, 0, 0, 0],
         [0x6474_E551, 0, 0, 0, 0],
-    ];
-    let words = [
-        0x0010_0513,
-        0x0001_15B7,
-        0x0F85_8593,
-        0x0060_0613,
-        0x0400_0893,
-        0x0000_0073,
-        0x0001_2503,
-        0x05D0_0893,
-        0x0000_0073u32,
     ];
     let mut image = Vec::new(alloc);
     image.extend_from_slice(b"\x7FELF\x01\x01\x01\0\0\0\0\0\0\0\0\0")?;
@@ -273,11 +107,22 @@ fn five_headers(alloc: Global) -> Result<Vec<u8>, Fail> {
             image.extend_from_slice(&word.to_le_bytes())?;
         }
     }
-    for word in words {
+    for word in HELLO {
         image.extend_from_slice(&word.to_le_bytes())?;
     }
     image.extend_from_slice(b"hello\n")?;
     Ok(image)
+}
+
+/// `alone` of an image with this budget.
+fn within(alloc: Global, image: &[u8], budget: &str) -> Result<Got, Fail> {
+    call(
+        alloc,
+        &Given {
+            words: &["alone", "g", "--budget", budget],
+            ..plain(image, b"")
+        },
+    )
 }
 
 #[test]
@@ -286,13 +131,7 @@ fn other_headers_are_passed_over(rt: HostRuntime) -> Result<(), Fail> {
     assert_eq!(rt; image.len(), 254);
     let got = call(rt.alloc(), &plain(image.as_slice(), b""))?;
     assert!(rt; got.answer == Answer::Exited(0) && got.out.as_slice() == b"hello\n".as_slice());
-    let counted = call(
-        rt.alloc(),
-        &Given {
-            words: &["alone", "g", "--budget", "8"],
-            ..plain(image.as_slice(), b"")
-        },
-    )?;
+    let counted = within(rt.alloc(), image.as_slice(), "8")?;
     assert!(rt; counted.answer == Answer::Spent);
     Ok(())
 }
@@ -300,43 +139,19 @@ fn other_headers_are_passed_over(rt: HostRuntime) -> Result<(), Fail> {
 #[test]
 fn generated_programs(rt: HostRuntime) -> Result<(), Fail> {
     let image = generate(rt.alloc(), 1, 6)?;
-    let whole = call(
-        rt.alloc(),
-        &Given {
-            words: &["alone", "g", "--budget", "180435"],
-            ..plain(image.as_slice(), b"")
-        },
-    )?;
+    let whole = within(rt.alloc(), image.as_slice(), "180435")?;
     assert!(rt; whole.answer == Answer::Exited(0));
     let mut sums = Vec::new(rt.alloc());
     for sum in [30003u32, 60027, 90072, 120138, 150225, 180333] {
         sums.extend_from_slice(&sum.to_le_bytes())?;
     }
     assert!(rt; whole.out.as_slice() == sums.as_slice());
-    let cut = call(
-        rt.alloc(),
-        &Given {
-            words: &["alone", "g", "--budget", "180434"],
-            ..plain(image.as_slice(), b"")
-        },
-    )?;
+    let cut = within(rt.alloc(), image.as_slice(), "180434")?;
     assert!(rt; cut.answer == Answer::Spent);
     let bench = generate(rt.alloc(), 0, 64)?;
-    let all = call(
-        rt.alloc(),
-        &Given {
-            words: &["alone", "g", "--budget", "1927078"],
-            ..plain(bench.as_slice(), b"")
-        },
-    )?;
+    let all = within(rt.alloc(), bench.as_slice(), "1927078")?;
     assert!(rt; all.answer == Answer::Exited(0) && all.out.len() == 256);
-    let less = call(
-        rt.alloc(),
-        &Given {
-            words: &["alone", "g", "--budget", "1927077"],
-            ..plain(bench.as_slice(), b"")
-        },
-    )?;
+    let less = within(rt.alloc(), bench.as_slice(), "1927077")?;
     assert!(rt; less.answer == Answer::Spent);
     Ok(())
 }

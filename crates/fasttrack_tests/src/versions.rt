@@ -1,7 +1,10 @@
 //! Both versions of a region: the ledgers that `trial` finds by plain runs, and `run` with tracks.
 
 use crate::call::{Given, Got, call, image_of, plain};
-use crate::programs::{SUM, SUM_TWICE};
+use crate::guests::{
+    CHANGES_CODE, CLOSES_ONLY, CLOSES_TWICE, MOVES_BREAK, NEVER_CLOSES, OPENS_TWICE, READS, SUM,
+    SUM_TWICE, WRITES_FAR, WRITES_OUT,
+};
 use fasttrack_program::{Answer, status};
 use guest_model::Trap;
 use rv32_asm::generate;
@@ -18,6 +21,9 @@ const STOPPED: &str = "kept 0 differs 0 stopped 1 late 0";
 
 const LATE: &str = "kept 0 differs 0 stopped 0 late 1";
 
+/// The totals of no row.
+const NONE: &str = "kept 0 differs 0 stopped 0 late 0";
+
 /// The report of `generate(1, 6)`.
 pub const MANY_REGIONS: &str = "region 0 at 4 pc 00010010 original 30010 fast 7 kept\n\
      region 1 at 30023 pc 0001006c original 30031 fast 7 differs register 10\n\
@@ -32,7 +38,7 @@ pub const MANY_REGIONS: &str = "region 0 at 4 pc 00010010 original 30010 fast 7 
 /// part goes there.
 fn with_fast_part(alloc: Global, part: &[u32]) -> Result<Vec<u32>, Fail> {
     if part.len() > 100 {
-        return Ok(Vec::new(alloc));
+        return Err(Fail::new("the fast part has more than a hundred instructions"));
     }
     let offset = 4 * part.len() as u32 + 4;
     let mut words = Vec::from_slice(alloc, &SUM[..8])?;
@@ -136,25 +142,51 @@ fn verdicts(rt: HostRuntime) -> Result<(), Fail> {
         &rt,
         rt.alloc(),
         &[
+            // li a0, 55; li t0, 0
             (&[0x0370_0513, 0x0000_0293], "fast 5 kept", KEPT, 9),
+            // li a0, 54; li t0, 0
             (
                 &[0x0360_0513, 0x0000_0293],
                 "fast 5 differs register 10",
                 DIFFERS,
                 40,
             ),
+            // li a0, 55; sb a7, -1(sp)
             (
                 &[0x0370_0513, 0xFF11_0FA3],
                 "fast 5 differs byte 7ffffeff",
                 DIFFERS,
                 40,
             ),
+            // li a0, 55; sb zero, -1(sp)
             (&[0x0370_0513, 0xFE01_0FA3], "fast 5 kept", KEPT, 9),
+            // j 0; li t0, 0
             (&[0x0000_006F, 0x0000_0293], "fast 36 late", LATE, 40),
+            // ebreak; li t0, 0
             (&[0x0010_0073, 0x0000_0293], "fast 3 stopped", STOPPED, 40),
+            // jr zero; li t0, 0
             (&[0x0000_0067, 0x0000_0293], "fast 4 stopped", STOPPED, 40),
+            // li a7, 93; ecall
             (&[0x05D0_0893, 0x0000_0073], "fast 4 stopped", STOPPED, 40),
+        ],
+    )
+}
+
+/// Fast parts that jump into the original, before the region, behind it, and to no instruction.
+#[test]
+fn jumps(rt: HostRuntime) -> Result<(), Fail> {
+    check_parts(
+        &rt,
+        rt.alloc(),
+        &[
+            // j -24; li t0, 0
             (&[0xFE9F_F06F, 0x0000_0293], "fast 36 late", LATE, 40),
+            // j -36; li t0, 0
+            (&[0xFDDF_F06F, 0x0000_0293], "fast 36 late", LATE, 40),
+            // j 16; li t0, 0
+            (&[0x0100_006F, 0x0000_0293], "fast 5 stopped", STOPPED, 40),
+            // jr 2(zero); li t0, 0
+            (&[0x0020_0067, 0x0000_0293], "fast 3 stopped", STOPPED, 40),
         ],
     )
 }
@@ -162,48 +194,15 @@ fn verdicts(rt: HostRuntime) -> Result<(), Fail> {
 /// Fast parts that read, change code, write, and move the break.
 #[test]
 fn hostile_parts(rt: HostRuntime) -> Result<(), Fail> {
-    let reads = [
-        0x0000_0513,
-        0xFFF1_0593,
-        0x0010_0613,
-        0x03F0_0893,
-        0x0000_0073,
-        0x0370_0513,
-        0x0000_0593,
-        0x0000_0613,
-    ];
-    let changes_code = [0x0001_02B7, 0x0002_A623, 0x0370_0513, 0x0000_0293];
-    let writes_far = [0x7FF0_02B7, 0x0112_8023, 0x0370_0513, 0x0000_0293];
-    let writes_out = [
-        0x0010_0513,
-        0xFFF1_0593,
-        0x0010_0613,
-        0x0400_0893,
-        0x0000_0073,
-        0x0370_0513,
-        0x0000_0593,
-        0x0000_0613,
-    ];
-    let moves_break = [
-        0x0000_0513,
-        0x0D60_0893,
-        0x0000_0073,
-        0x0105_0513,
-        0x0000_0073,
-        0x0370_0513,
-    ];
     check_parts(
         &rt,
         rt.alloc(),
         &[
-            (&reads, "fast 11 differs place", DIFFERS, 40),
-            (&changes_code, "fast 7 differs byte 0001000c", DIFFERS, 40),
-            (&writes_far, "fast 7 differs byte 7ff00000", DIFFERS, 40),
-            (&[0xFDDF_F06F, 0x0000_0293], "fast 36 late", LATE, 40),
-            (&[0x0100_006F, 0x0000_0293], "fast 5 stopped", STOPPED, 40),
-            (&[0x0020_0067, 0x0000_0293], "fast 3 stopped", STOPPED, 40),
-            (&writes_out, "fast 11 kept", KEPT, 15),
-            (&moves_break, "fast 9 differs break", DIFFERS, 40),
+            (&READS, "fast 11 differs place", DIFFERS, 40),
+            (&CHANGES_CODE, "fast 7 differs byte 0001000c", DIFFERS, 40),
+            (&WRITES_FAR, "fast 7 differs byte 7ff00000", DIFFERS, 40),
+            (&WRITES_OUT, "fast 11 kept", KEPT, 15),
+            (&MOVES_BREAK, "fast 9 differs break", DIFFERS, 40),
         ],
     )
 }
@@ -212,7 +211,7 @@ fn hostile_parts(rt: HostRuntime) -> Result<(), Fail> {
 #[test]
 fn a_tie(rt: HostRuntime) -> Result<(), Fail> {
     let mut words = SUM;
-    words[2] = 0x0000_0013;
+    words[2] = 0x0000_0013; // nop
     check(
         &rt,
         rt.alloc(),
@@ -225,8 +224,11 @@ fn a_tie(rt: HostRuntime) -> Result<(), Fail> {
     )
 }
 
-/// The program of two bytes, spent with this output.
-fn spent<'a>(out: &'a [u8], report: &'a str) -> Told<'a> {
+/// The row of `SUM_TWICE`.
+const KEPT_ROW: &str = "region 0 at 1 pc 00010004 original 36 fast 5 kept\n";
+
+/// A program that spends its budget, with this output.
+fn spends<'a>(out: &'a [u8], report: &'a str) -> Told<'a> {
     Told {
         answer: Answer::Spent,
         out,
@@ -235,102 +237,95 @@ fn spent<'a>(out: &'a [u8], report: &'a str) -> Told<'a> {
     }
 }
 
-/// A region that closes exactly at the budget has a row, and one that would close one instruction past it has none.
-/// The output is cut at the budget.
+/// `SUM_TWICE` takes 49 instructions.
 #[test]
-fn budgets(rt: HostRuntime) -> Result<(), Fail> {
-    let whole = Told {
+fn budgets_that_suffice(rt: HostRuntime) -> Result<(), Fail> {
+    let report = format!(in rt.alloc();
+        "{KEPT_ROW}regions 1 {KEPT} alone 49 path 18\nend exit 0\n"
+    )?;
+    let told = Told {
         out: b"77",
-        ..exits(
-            0,
-            "region 0 at 1 pc 00010004 original 36 fast 5 kept\nregions 1 kept 1 differs 0 stopped 0 late 0 alone 49 path 18\nend exit 0\n",
-        )
+        ..exits(0, report.as_str())
     };
-    let rows = [
-        ("1000", whole),
-        ("49", whole),
-        (
-            "46",
-            spent(
-                b"77",
-                "region 0 at 1 pc 00010004 original 36 fast 5 kept\nregions 1 kept 1 differs 0 stopped 0 late 0 alone 46 path 15\nend spent\n",
-            ),
-        ),
-        (
-            "44",
-            spent(
-                b"7",
-                "region 0 at 1 pc 00010004 original 36 fast 5 kept\nregions 1 kept 1 differs 0 stopped 0 late 0 alone 44 path 13\nend spent\n",
-            ),
-        ),
-        (
-            "43",
-            spent(
-                b"",
-                "region 0 at 1 pc 00010004 original 36 fast 5 kept\nregions 1 kept 1 differs 0 stopped 0 late 0 alone 43 path 12\nend spent\n",
-            ),
-        ),
-        (
-            "37",
-            spent(
-                b"",
-                "region 0 at 1 pc 00010004 original 36 fast 5 kept\nregions 1 kept 1 differs 0 stopped 0 late 0 alone 37 path 6\nend spent\n",
-            ),
-        ),
-        (
-            "36",
-            spent(
-                b"",
-                "regions 0 kept 0 differs 0 stopped 0 late 0 alone 36 path 36\nend spent\n",
-            ),
-        ),
-        (
-            "1",
-            spent(
-                b"",
-                "regions 0 kept 0 differs 0 stopped 0 late 0 alone 1 path 1\nend spent\n",
-            ),
-        ),
-    ];
-    for (budget, told) in rows {
+    for budget in ["1000", "49"] {
         check(&rt, rt.alloc(), &SUM_TWICE, budget, &told)?;
     }
     Ok(())
 }
 
+/// A region that closes exactly at the budget has a row. The output is cut at the budget.
+#[test]
+fn budgets_behind_a_region(rt: HostRuntime) -> Result<(), Fail> {
+    let rows = [
+        ("46", b"77".as_slice(), "15"),
+        ("44", b"7", "13"),
+        ("43", b"", "12"),
+        ("37", b"", "6"),
+    ];
+    for (budget, out, path) in rows {
+        let report = format!(in rt.alloc();
+            "{KEPT_ROW}regions 1 {KEPT} alone {budget} path {path}\nend spent\n"
+        )?;
+        check(
+            &rt,
+            rt.alloc(),
+            &SUM_TWICE,
+            budget,
+            &spends(out, report.as_str()),
+        )?;
+    }
+    Ok(())
+}
+
+/// A region that would close one instruction past the budget has no row, as one that is not opened.
+#[test]
+fn budgets_inside_a_region(rt: HostRuntime) -> Result<(), Fail> {
+    for budget in ["36", "1"] {
+        let report = format!(in rt.alloc();
+            "regions 0 {NONE} alone {budget} path {budget}\nend spent\n"
+        )?;
+        check(
+            &rt,
+            rt.alloc(),
+            &SUM_TWICE,
+            budget,
+            &spends(b"", report.as_str()),
+        )?;
+    }
+    Ok(())
+}
+
 /// An opening call inside a region opens none, a closing call outside of one does nothing, and a region that the program
-/// never closes has no row. A trap is told.
+/// never closes has no row.
 #[test]
 fn other_shapes(rt: HostRuntime) -> Result<(), Fail> {
-    let opens_twice = [
-        0x7D00_0893,
-        0x0000_0073,
-        0x0000_0073,
-        0x0000_0513,
-        0x7D10_0893,
-        0x0000_0073,
-        0x05D0_0893,
-        0x0000_0073,
+    let rows: [(&[u32], &str); 4] = [
+        (
+            &OPENS_TWICE,
+            "region 0 at 1 pc 00010004 original 4 fast 4 kept\nregions 1 kept 1 differs 0 stopped 0 late 0 alone 8 path 8\nend exit 0\n",
+        ),
+        (
+            &CLOSES_TWICE,
+            "region 0 at 1 pc 00010004 original 3 fast 3 kept\nregions 1 kept 1 differs 0 stopped 0 late 0 alone 9 path 9\nend exit 0\n",
+        ),
+        (
+            &CLOSES_ONLY,
+            "regions 0 kept 0 differs 0 stopped 0 late 0 alone 5 path 5\nend exit 0\n",
+        ),
+        (
+            &NEVER_CLOSES,
+            "regions 0 kept 0 differs 0 stopped 0 late 0 alone 4 path 4\nend exit 0\n",
+        ),
     ];
-    let closes_twice = [
-        0x7D00_0893,
-        0x0000_0073,
-        0x0000_0073,
-        0x7D10_0893,
-        0x0000_0073,
-        0x0000_0073,
-        0x0000_0513,
-        0x05D0_0893,
-        0x0000_0073,
-    ];
-    let closes_only = [
-        0x7D10_0893,
-        0x0000_0073,
-        0x0000_0513,
-        0x05D0_0893,
-        0x0000_0073,
-    ];
-    let never_closes = [0x7D00_0893, 0x0000_0073, 0x05D0_0893, 0x0000_0073];
+    for (words, report) in rows {
+        check(&rt, rt.alloc(), words, "1000", &exits(0, report))?;
+    }
+    Ok(())
+}
+
+/// A trap is told by the report, and by the answer's line.
+#[test]
+fn a_trap(rt: HostRuntime) -> Result<(), Fail> {
     let trap = Told {
         answer: Answer::Trapped(Trap::Illegal, 0x10004),
         line: "fasttrack: trap illegal at 00010004\n",
@@ -339,41 +334,8 @@ fn other_shapes(rt: HostRuntime) -> Result<(), Fail> {
             "regions 0 kept 0 differs 0 stopped 0 late 0 alone 2 path 2\nend trap illegal at 00010004\n",
         )
     };
-    let rows: [(&[u32], Told<'_>); 5] = [
-        (
-            &opens_twice,
-            exits(
-                0,
-                "region 0 at 1 pc 00010004 original 4 fast 4 kept\nregions 1 kept 1 differs 0 stopped 0 late 0 alone 8 path 8\nend exit 0\n",
-            ),
-        ),
-        (
-            &closes_twice,
-            exits(
-                0,
-                "region 0 at 1 pc 00010004 original 3 fast 3 kept\nregions 1 kept 1 differs 0 stopped 0 late 0 alone 9 path 9\nend exit 0\n",
-            ),
-        ),
-        (
-            &closes_only,
-            exits(
-                0,
-                "regions 0 kept 0 differs 0 stopped 0 late 0 alone 5 path 5\nend exit 0\n",
-            ),
-        ),
-        (
-            &never_closes,
-            exits(
-                0,
-                "regions 0 kept 0 differs 0 stopped 0 late 0 alone 4 path 4\nend exit 0\n",
-            ),
-        ),
-        (&[0x02C5_C533], trap),
-    ];
-    for (words, told) in rows {
-        check(&rt, rt.alloc(), words, "1000", &told)?;
-    }
-    Ok(())
+    // div a0, a1, a2
+    check(&rt, rt.alloc(), &[0x02C5_C533], "1000", &trap)
 }
 
 /// One region after the other, with every verdict that the generator makes. `trial` drops what the guest writes.
