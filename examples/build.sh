@@ -8,5 +8,7 @@ image() { # FILE SOURCE..
 }
 image primes.elf primes.c
 image roots.elf region.s roots.c
+# The gate runs this one.
+cp roots.elf ../crates/fasttrack/data/roots.elf
 python3 words.py exit0.elf 00000513 05D00893 00000073
 python3 words.py trap.elf 00000000
