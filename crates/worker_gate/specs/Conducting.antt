@@ -47,8 +47,8 @@ pub record IsWhole (w : Posted) (o : Outcome) : Type 0 where
   pub released : verified_of w ≡ []
 
 -- What a conductor answers and leaves: the sinks got both streams of all that the program alone writes, and the outcome
--- is whole; or they got a part of it. `Done` and `NoMemory` come only where neither count of faults rose, and `WriteFault`
--- only where one of them did, at a byte of its stream.
+-- is whole; or they got a part of it. Where neither count of faults rose, or could not, the answer is `Done` or
+-- `NoMemory`; after `WriteFault` one of them did, at a byte of its stream.
 abbrev pub Conducts : Posted → Sinks → Sinks → Conducted → Type 0
 Conducts w old new (Done o) = IsWhole w o × GetsAll old new (output_of (alone_of w))
 Conducts w old new WriteFault = StopsShort old new (output_of (alone_of w))

@@ -27,8 +27,8 @@ pub record AfterWriteFault (w : Posted) (old new : Sinks) : Type 0 where
   pub unwritten : ReleaseFails before last between new
   pub now : w ≡ ended last
 
--- There was no memory. The sinks got all that was released. Behind the serial history so far nothing was entered but the
--- halt of a run without a finish; or the track whose slice came next was lent to seat 0 and is gone.
+-- There was no memory. The sinks got all that was released. Behind the serial history so far nothing was entered but
+-- the halt of a run without a finish; or the track whose slice came next was lent to seat 0 and is gone.
 pub record AfterNoMemory (w : Posted) (old new : Sinks) : Type 0 where
   pub before : Posted
   pub written : IsWritten before old new
