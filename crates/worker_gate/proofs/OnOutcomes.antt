@@ -1,5 +1,5 @@
 -- What the sinks got, and what came of a board, when its rounds are over.
-use Rattle.std.proofs.Common.{◌≡◌, ◌≢◌, ◌+◌, ◌<◌, inl, inr, true, if◌then◌else◌, Bool, false, List, [], ◌++◌, length, Option, Some, None, refl, sym, ap, ◌∙◌, subst, append_assoc, append-nil, arith}
+use Rattle.std.proofs.Common.{◌≡◌, ◌≢◌, ℕ, ◌+◌, ◌<◌, ◌⊎◌, inl, inr, true, if◌then◌else◌, Bool, false, ◌||◌, is_some, List, [], ◌∷◌, ◌++◌, length, Option, Some, None, refl, sym, ap, ◌∙◌, subst, append_assoc, append-nil, arith}
 use Rattle.speculation.specs.declared.history.Entry.TheVariants as E
 use Rattle.speculation.specs.Run.{Mark}
 use Rattle.speculation.specs.Record.{output_of}
@@ -14,19 +14,20 @@ use Rattle.speculation_law.proofs.SerialEnds.{ended-idle}
 use Rattle.speculation_law.proofs.SerialSoFar.{serial_so_far-whole}
 use Rattle.region_ledger.specs.Ledger.{core_end, core_finished}
 use Rattle.region_ledger.specs.declared.finished.Finished.{Finished}
-use Rattle.guest_streams.specs.GuestStreams.{Sinks, GetsAll, StopsShort, end_of}
+use Rattle.guest_streams.specs.GuestStreams.{Sinks, GetsAll, GetsPart, StopsShort, FailsAt, end_of}
 use Rattle.guest_streams.specs.declared.fault.OutputFault.{OutputFault}
 use Rattle.guest_streams.specs.declared.fault.OutputFault.TheVariants.{Write, NoMemory}
-use Rattle.guest_streams.proofs.OnStreams.{GetsAll-nothing, GetsAll-more, StopsShort-amid, GetsPart-of, GetsPart-more}
+use Rattle.guest_streams.proofs.OnStreams.{GetsAll-nothing, GetsAll-more, StopsShort-amid, GetsPart-of}
 use Rattle.track_board.specs.declared.outcome.Outcome.{Outcome}
 use Rattle.track_board.specs.Value.{Posted, GuestCore, IsKnown, machine_of, start_state, core_of, posted}
-use Rattle.track_board.specs.Settles.{verified_of, finish_of, IsOutcome}
+use Rattle.track_board.specs.Settles.{Settles, due_of, verified_of, released_with, finish_of, IsOutcome}
 use Rattle.track_board.proofs.Foundation.{core-legal}
 use Rattle.track_board.proofs.Settling.{weight_of}
 use Rattle.worker_gate.specs.Conducting.{alone_of, IsSameRun, IsWhole, Conducts}
-use Rattle.worker_gate.specs.Rounds.{TakesVerified, SettlesSome, CanLend, RunsSlice, SliceFails, IsUnderway, GoesBy, GoesOn, IsAtEnd, BreaksOff, Breaks, IsRound, answer_to}
+use Rattle.worker_gate.specs.Rounds.{TakesVerified, SettlesSome, CanLend, RunsSlice, SliceFails, IsUnderway, GoesBy, GoesOn, IsAtEnd, ReleaseFails, LosesSlice, NextFails, Breaks, IsRound, answer_to}
+use Rattle.worker_gate.specs.Failures.{ended, IsWritten, AfterWriteFault, AfterNoMemory, AfterFailure}
 use Rattle.worker_gate.proofs.Releases.{total-run}
-use Rattle.worker_gate.proofs.OnRounds.{exact-of, sound-of, Extends, extends-more, ExtendsQuietly, quietly, quiet-released, extends-none, settles-quiet, slice-next, solo-of, by-carries, by-extends, by-known, by-more, at-end, can-lend, TakenRounds, taken-rounds, slice-quiet, given_up-quiet}
+use Rattle.worker_gate.proofs.OnRounds.{exact-of, sound-of, Extends, extends-known, quietly, quiet-released, extends-none, settles-quiet, settles-by, release-follows, slice-follows, slice-next, solo-of, by-carries, by-extends, by-known, by-more, at-end, can-lend, TakenRounds, taken-rounds, slice-quiet}
 
 -- ---- one run
 
@@ -79,73 +80,120 @@ on-more u v w s t x a b = record {
 abbrev pub on-taken : (v w : Posted) (s t : Sinks) (bytes : List Mark) → TakenRounds v w bytes → GetsAll s t bytes → GoesOn v w s t
 on-taken v w s t bytes h written = record { count = h.count; by = h.by; underway = h.carries.underway; bytes = bytes; released = h.released; written = written }
 
+-- some due events are done
+pub on-settled : (n : ℕ) (v w : Posted) (s : Sinks) → Settles n v w → IsKnown w → IsUnderway v → GoesOn v w s s
+on-settled n v w s h known underway =
+    let quiet = settles-quiet n v w h in
+    let by = settles-by n v w h in
+    record {
+      count = n;
+      by = by;
+      underway = (by-carries n v w by (extends-known v w (quietly v w quiet) known) underway).underway;
+      bytes = [];
+      released = quiet-released v w quiet known ∙ sym (append-nil (core_of v).released);
+      written = GetsAll-nothing s;
+    }
+
 -- ---- how they break off
 
--- the program's output is what was released, and a rest
-rest-of : (w : Posted) → IsKnown w → (rest : List Mark) × ((core_of w).released ++ rest ≡ output_of (alone_of w))
-rest-of w known =
-    let shown = (law-partial (machine_of w) w.settings (start_state w) w.entries (core_of w) (exact-of w) known.legal).output in
-    (verified_of w ++ shown.0, sym (append_assoc (core_of w).released (verified_of w) shown.0) ∙ shown.1)
-
--- after v these bytes were released
-record Beyond (v : Posted) (bytes : List Mark) : Type 0 where
-  rest : List Mark
-  parts : (core_of v).released ++ (bytes ++ rest) ≡ output_of (alone_of v)
-
-beyond : (v w : Posted) (bytes : List Mark) → IsSameRun v w → IsKnown w → (core_of w).released ≡ (core_of v).released ++ bytes → Beyond v bytes
-beyond v w bytes same known released =
-    let left = rest-of w known in
-    record {
-      rest = left.0;
-      parts = sym (append_assoc (core_of v).released bytes left.0) ∙ ap (λ (ms : List Mark). ms ++ left.0) (sym released) ∙ left.1 ∙ same-output v w same;
-    }
-
--- a sink failed at these bytes
-pub breaks-write : (v w : Posted) (s t : Sinks) (bytes : List Mark) → IsSameRun v w → IsKnown w → (core_of w).released ≡ (core_of v).released ++ bytes → StopsShort s t bytes → Breaks v w s t Write
-breaks-write v w s t bytes same known released short =
-    let more = beyond v w bytes same known released in
-    record { same = same; rest = bytes ++ more.rest; parts = more.parts; breaks = StopsShort-amid s s t [] bytes more.rest (GetsAll-nothing s) short }
-
--- there was no memory after the sinks got them
-pub breaks-no_memory : (v w : Posted) (s t : Sinks) (bytes : List Mark) → IsSameRun v w → IsKnown w → (core_of w).released ≡ (core_of v).released ++ bytes → GetsAll s t bytes → Breaks v w s t NoMemory
-breaks-no_memory v w s t bytes same known released written =
-    let more = beyond v w bytes same known released in
-    record { same = same; rest = bytes ++ more.rest; parts = more.parts; breaks = GetsPart-of s t bytes more.rest written }
-
-breaks-behind : (s t x : Sinks) (before rest : List Mark) (fault : OutputFault) → GetsAll s t before → BreaksOff fault t x rest → BreaksOff fault s x (before ++ rest)
-breaks-behind s t x before rest Write written h =
-    subst (λ ms. StopsShort s x (before ++ ms)) (append-nil rest) (StopsShort-amid s t x before rest [] written h)
-breaks-behind s t x before rest NoMemory written h = GetsPart-more s t x before rest written h
-
--- rounds, and then a fault
+-- rounds, and then what comes next fails
 pub on-breaks : (u v w : Posted) (s t x : Sinks) (fault : OutputFault) → GoesOn u v s t → Breaks v w t x fault → Breaks u w s x fault
-on-breaks u v w s t x fault on h =
-    let same = extends-same u v (by-extends on.count u v on.by) in
-    record {
-      same = same-run u v w same h.same;
-      rest = on.bytes ++ h.rest;
-      parts = sym (append_assoc (core_of u).released on.bytes h.rest) ∙ ap (λ (ms : List Mark). ms ++ h.rest) (sym on.released) ∙ h.parts ∙ same-output u v same;
-      breaks = breaks-behind s t x on.bytes h.rest fault on.written h.breaks;
-    }
+on-breaks u v w s t x fault on h = record { before = h.before; between = h.between; on = on-more u v h.before s t h.between on h.on; fails = h.fails }
+
+-- there was no memory for a step that leaves the board as it is
+on-refused : (v w : Posted) (s t : Sinks) → GoesOn v w s t → Breaks v w s t NoMemory
+on-refused v w s t on = record { before = w; between = t; on = on; fails = (inl refl, refl) }
+
+memory-extends : (v w : Posted) → (w ≡ v) ⊎ LosesSlice v w → Extends v w
+memory-extends v w (inl h) = quietly v w (extends-none v w h)
+memory-extends v w (inr h) = record { more = E.Lend 0 h.gives_up.name ∷ (E.Gone h.gives_up.name ∷ []); now = h.gives_up.now }
+
+next-extends : (fault : OutputFault) (v w : Posted) (s t : Sinks) → NextFails fault v w s t → Extends v w
+next-extends Write v w s t h = record { more = E.Release (length (verified_of v)) ∷ []; now = h.now }
+next-extends NoMemory v w s t h = memory-extends v w h.0
 
 -- ---- a board that is halted then
 
-halted-extends : (v w : Posted) (t : Bool) → w ≡ (if t then v else posted v (E.Halt 0)) → IsSameRun v w
-halted-extends v w true h = record { settings = ap (λ (x : Posted). x.settings) h; loaded = ap (λ (x : Posted). x.loaded) h; input = ap (λ (x : Posted). x.input) h }
-halted-extends v w false h = record { settings = ap (λ (x : Posted). x.settings) h; loaded = ap (λ (x : Posted). x.loaded) h; input = ap (λ (x : Posted). x.input) h }
+halted-same : (v w : Posted) (t : Bool) → w ≡ (if t then v else posted v (E.Halt 0)) → IsSameRun v w
+halted-same v w true h = record { settings = ap (λ (x : Posted). x.settings) h; loaded = ap (λ (x : Posted). x.loaded) h; input = ap (λ (x : Posted). x.input) h }
+halted-same v w false h = record { settings = ap (λ (x : Posted). x.settings) h; loaded = ap (λ (x : Posted). x.loaded) h; input = ap (λ (x : Posted). x.input) h }
 
-pub halted-same : (u v w : Posted) (s t : Sinks) (fault : OutputFault) → Breaks u v s t fault → w ≡ (if over (core_of v) then v else posted v (E.Halt 0)) → IsSameRun u w
-halted-same u v w s t fault h halted = same-run u v w h.same (halted-extends v w (over (core_of v)) halted)
+-- a board that nobody has halted is over where it has a finish
+unhalted : (finished halted : Bool) → halted ≡ false → (finished || halted) ≡ finished
+unhalted true halted h = refl
+unhalted false halted h = h
 
-conducts-breaks : (w : Posted) (s t : Sinks) (fault : OutputFault) → BreaksOff fault s t (output_of (alone_of w)) → Conducts w s t (answer_to fault)
-conducts-breaks w s t Write h = h
-conducts-breaks w s t NoMemory h = h
+-- from the board u the sinks were s; the board v, and the sinks t, came of it; then w was made of v
+module _ (u v w : Posted) (s t : Sinks) (fresh : u.entries ≡ []) (known : IsKnown v) (halted : w ≡ (if over (core_of v) then v else posted v (E.Halt 0))) where
+  -- nothing follows but the end
+  halted-ended : (core_of v).halted ≡ false → w ≡ ended v
+  halted-ended running = halted ∙ ap (λ b. if b then v else posted v (E.Halt 0)) (unhalted (is_some (core_of v).finish) (core_of v).halted running)
 
--- the whole output of the program breaks off
-pub halted-conducts : (u v w : Posted) (s t : Sinks) (fault : OutputFault) → u.entries ≡ [] → Breaks u v s t fault → w ≡ (if over (core_of v) then v else posted v (E.Halt 0)) → Conducts w s t (answer_to fault)
-halted-conducts u v w s t fault fresh h halted =
-    let all : h.rest ≡ output_of (alone_of u) = ap (λ (ms : List Mark). ms ++ h.rest) (sym (released-first u fresh)) ∙ h.parts in
-    conducts-breaks w s t fault (subst (λ ms. BreaksOff fault s t ms) (all ∙ sym (same-output u w (halted-same u v w s t fault h halted))) h.breaks)
+  -- nothing at all
+  halted-over : over (core_of v) ≡ true → w ≡ v
+  halted-over is_over = halted ∙ ap (λ b. if b then v else posted v (E.Halt 0)) is_over
+
+  module _ (before : Posted) (between : Sinks) (on : GoesOn u before s between) (from : Extends before v) where
+    before-known : IsKnown before
+    before-known = extends-known before v from known
+
+    before-written : IsWritten before s between
+    before-written =
+        let all : on.bytes ≡ (core_of before).released = sym (on.released ∙ ap (λ (ms : List Mark). ms ++ on.bytes) (released-first u fresh)) in
+        record { so_far = on.underway.so_far; written = subst (GetsAll s between) all on.written }
+
+    before-same : IsSameRun before w
+    before-same = same-run before v w (extends-same before v from) (halted-same v w (over (core_of v)) halted)
+
+    -- the program's output is what was released, what is verified, and a rest
+    output-parts : (rest : List Mark) × ((core_of before).released ++ (verified_of before ++ rest) ≡ output_of (alone_of w))
+    output-parts =
+        let shown = (law-partial (machine_of before) before.settings (start_state before) before.entries (core_of before) (exact-of before) before-known.legal).output in
+        (shown.0, sym (append_assoc (core_of before).released (verified_of before) shown.0) ∙ shown.1 ∙ sym (same-output before w before-same))
+
+    write-conducts : StopsShort between t (verified_of before) → StopsShort s t (output_of (alone_of w))
+    write-conducts h =
+        subst (StopsShort s t) output-parts.1 (StopsShort-amid s between t (core_of before).released (verified_of before) output-parts.0 before-written.written h)
+
+    memory-conducts : t ≡ between → GetsPart s t (output_of (alone_of w))
+    memory-conducts same =
+        subst (λ (x : Sinks). GetsPart s x (output_of (alone_of w))) (sym same)
+        (subst (GetsPart s between) output-parts.1 (GetsPart-of s between (core_of before).released (verified_of before ++ output-parts.0) before-written.written))
+
+    write-after : ReleaseFails before v between t → AfterWriteFault w s t
+    write-after h =
+        let by : GoesBy 1 before v = (before, refl, record { entries = E.Release (length (verified_of before)) ∷ []; next = h.next; now = h.now }) in
+        record {
+          before = before;
+          between = between;
+          written = before-written;
+          last = v;
+          unwritten = h;
+          now = halted-ended (by-carries 1 before v by before-known on.underway).underway.running;
+        }
+
+    memory-ended : (v ≡ before) ⊎ LosesSlice before v → (w ≡ ended before) ⊎ LosesSlice before w
+    memory-ended (inl h) = inl (halted-ended (ap (λ (x : Posted). (core_of x).halted) h ∙ on.underway.running) ∙ ap ended h)
+    memory-ended (inr h) = inr (subst (LosesSlice before) (sym (halted-over h.gives_up.over)) h)
+
+    memory-after : (v ≡ before) ⊎ LosesSlice before v → t ≡ between → AfterNoMemory w s t
+    memory-after h same = record { before = before; written = subst (IsWritten before s) (sym same) before-written; now = memory-ended h }
+
+  module _ (fault : OutputFault) (h : Breaks u v s t fault) where
+    pub failed-same : IsSameRun u w
+    failed-same =
+        same-run u h.before w (extends-same u h.before (by-extends h.on.count u h.before h.on.by))
+        (before-same h.before h.between h.on (next-extends fault h.before v h.between t h.fails))
+
+  -- the whole output of the program breaks off
+  pub failed-conducts : (fault : OutputFault) → Breaks u v s t fault → Conducts w s t (answer_to fault)
+  failed-conducts Write h = write-conducts h.before h.between h.on (next-extends Write h.before v h.between t h.fails) h.fails.short
+  failed-conducts NoMemory h = memory-conducts h.before h.between h.on (next-extends NoMemory h.before v h.between t h.fails) h.fails.1
+
+  -- and nothing follows what failed
+  pub failed-after : (fault : OutputFault) → Breaks u v s t fault → AfterFailure w s t (answer_to fault)
+  failed-after Write h = write-after h.before h.between h.on (next-extends Write h.before v h.between t h.fails) h.fails
+  failed-after NoMemory h = memory-after h.before h.between h.on (next-extends NoMemory h.before v h.between t h.fails) h.fails.0 h.fails.1
 
 -- ---- a board at its end
 
@@ -194,6 +242,31 @@ module _ (u w : Posted) (s t : Sinks) (o : Outcome) (fresh : u.entries ≡ []) (
 
 -- ---- one round
 
+fails-nowhere : (s t : Sinks) → FailsAt s t [] → ⊥
+fails-nowhere s t (inl h) = h.2
+fails-nowhere s t (inr h) = h.2
+
+-- sinks stop short only of some bytes
+short-some : (s t : Sinks) (got rest : List Mark) → got ++ rest ≡ [] → FailsAt s t rest → ⊥
+short-some s t [] rest parts h = fails-nowhere s t (subst (FailsAt s t) parts h)
+short-some s t (m ∷ ms) rest parts h = absurd (cc)
+
+-- a sink failed at the verified bytes
+taken-unwritten : (v u w : Posted) (s t : Sinks) (n : ℕ) (bytes : List Mark) → Settles n v u → due_of u ≡ None → bytes ≡ verified_of u → w ≡ released_with u bytes → IsKnown w → IsUnderway v → StopsShort s t bytes → Breaks v w s t Write
+taken-unwritten v u w s t n [] settles undue is now known underway h = absurd (short-some s t h.got h.rest h.parts h.fails)
+taken-unwritten v u w s t n (m ∷ ms) settles undue is now known underway h =
+    let before : IsKnown u = extends-known u w (record { more = E.Release (length (m ∷ ms)) ∷ []; now = now }) known in
+    record {
+      before = u;
+      between = s;
+      on = on-settled n v u s settles before underway;
+      fails = record {
+        next = release-follows u m ms undue is;
+        now = now ∙ ap (λ (xs : List Mark). posted u (E.Release (length xs))) is;
+        short = subst (StopsShort s t) is h;
+      };
+    }
+
 module _ (v w : Posted) (bytes : List Mark) (taken : TakesVerified v w bytes) (known : IsKnown w) (underway : IsUnderway v) where
   rounds : TakenRounds v w bytes
   rounds = taken-rounds v w bytes taken known underway
@@ -201,7 +274,7 @@ module _ (v w : Posted) (bytes : List Mark) (taken : TakesVerified v w bytes) (k
   module _ (s t : Sinks) where
     -- a sink failed
     pub round-unwritten : StopsShort s t bytes → Breaks v w s t Write
-    round-unwritten h = breaks-write v w s t bytes (extends-same v w rounds.carries.extends) known rounds.released h
+    round-unwritten h = taken-unwritten v taken.settled w s t taken.events bytes taken.settles taken.undue taken.verified taken.now known underway h
 
     -- the board is over then
     pub round-last : GetsAll s t bytes → over (core_of w) ≡ true → GoesOn v w s t × IsAtEnd w
@@ -232,20 +305,16 @@ module _ (v w : Posted) (bytes : List Mark) (taken : TakesVerified v w bytes) (k
             omega arith,
           )
 
-      fails-quiet : SliceFails w x → ExtendsQuietly w x
-      fails-quiet (inl h) = extends-none w x h
-      fails-quiet (inr h) = given_up-quiet w x h
+      fails-next : SliceFails w x → (x ≡ w) ⊎ LosesSlice w x
+      fails-next (inl h) = inl h
+      fails-next (inr h) = inr (record { gives_up = h; next = slice-follows w h.name (rounds.undue nothing) rounds.none h.oldest })
 
-      pub round-fails : SliceFails w x → IsKnown x → Breaks v x s t NoMemory
-      round-fails h after =
-          let quiet = fails-quiet h in
-          breaks-no_memory v x s t bytes (extends-same v x (extends-more v w x rounds.carries.extends (quietly w x quiet))) after (quiet-released w x quiet after ∙ rounds.released) written
+      pub round-fails : SliceFails w x → Breaks v x s t NoMemory
+      round-fails h = record { before = w; between = t; on = on-taken v w s t bytes rounds written; fails = (fails-next h, refl) }
 
 -- there was no memory for what is due, or for the verified bytes
-pub round-untaken : (v w : Posted) (s : Sinks) → SettlesSome v w → IsKnown w → Breaks v w s s NoMemory
-round-untaken v w s h known =
-    let quiet = settles-quiet h.0 v w h.1 in
-    breaks-no_memory v w s s [] (extends-same v w (quietly v w quiet)) known (quiet-released v w quiet known ∙ sym (append-nil (core_of v).released)) (GetsAll-nothing s)
+pub round-untaken : (v w : Posted) (s : Sinks) → SettlesSome v w → IsKnown w → IsUnderway v → Breaks v w s s NoMemory
+round-untaken v w s h known underway = on-refused v w s s (on-settled h.0 v w s h.1 known underway)
 
 -- ---- all rounds
 
@@ -270,6 +339,4 @@ module _ (u v w : Posted) (s t x : Sinks) (on : GoesOn u v s t) (more : Bool) (r
   rounds-end is = (on-more u v w s t x on (further false is).0, (further false is).1)
 
   pub rounds-refused : more ≡ false → Breaks u w s x NoMemory
-  rounds-refused is =
-      let all = (rounds-end is).0 in
-      breaks-no_memory u w s x all.bytes (extends-same u w (by-extends all.count u w all.by)) known all.released all.written
+  rounds-refused is = on-refused u w s x (rounds-end is).0

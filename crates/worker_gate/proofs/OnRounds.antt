@@ -32,7 +32,7 @@ use Rattle.track_board.specs.Settles.{Acted, Settles, due_of, verified_of, relea
 use Rattle.track_board.specs.Others.{extended}
 use Rattle.track_board.proofs.Foundation.{core-legal, legal-known}
 use Rattle.track_board.proofs.Settling.{weight_of}
-use Rattle.worker_gate.specs.Rounds.{TakesVerified, SettlesSome, CanLend, slice_entries, RunsSlice, GivesUp, IsUnderway, IsNext, GoesBy, IsAtEnd}
+use Rattle.worker_gate.specs.Rounds.{TakesVerified, SettlesSome, CanLend, slice_entries, RunsSlice, IsUnderway, IsNext, GoesBy, IsAtEnd}
 use Rattle.worker_gate.proofs.Releases.{IsQuiet, AreQuiet, quiet-append, quiet-run, release-core, released_core-released}
 
 -- ---- what is known of every board
@@ -145,17 +145,25 @@ none-shown v h = ap (λ (ms : List Mark). nat_lt 0 (length ms)) h
 some-shown : (v : Posted) (m : Mark) (ms : List Mark) → m ∷ ms ≡ verified_of v → nat_lt 0 (length (verified_of v)) ≡ true
 some-shown v m ms h = ap (λ (xs : List Mark). nat_lt 0 (length xs)) (sym h) ∙ lt-ltb 0 (length (m ∷ ms)) (omega arith)
 
+pub release-follows : (v : Posted) (m : Mark) (ms : List Mark) → due_of v ≡ None → m ∷ ms ≡ verified_of v
+    → serial_next (machine_of v) v.settings (core_of v) ≡ Some (E.Release (length (verified_of v)) ∷ [])
+release-follows v m ms undue is = next-is v None true (oldest_lendable v) undue (some-shown v m ms is) refl
+
 release-next : (v : Posted) (m : Mark) (ms : List Mark) → due_of v ≡ None → m ∷ ms ≡ verified_of v → IsNext v (released_with v (m ∷ ms))
 release-next v m ms undue is = record {
   entries = E.Release (length (m ∷ ms)) ∷ [];
-  next = next-is v None true (oldest_lendable v) undue (some-shown v m ms is) refl ∙ ap (λ (xs : List Mark). Some (E.Release (length xs) ∷ [])) (sym is);
+  next = release-follows v m ms undue is ∙ ap (λ (xs : List Mark). Some (E.Release (length xs) ∷ [])) (sym is);
   now = refl;
 }
+
+pub slice-follows : (v : Posted) (n : Name) → due_of v ≡ None → verified_of v ≡ [] → oldest_lendable v ≡ Some n
+    → serial_next (machine_of v) v.settings (core_of v) ≡ Some (slice_entries v n)
+slice-follows v n undue none oldest = next-is v None false (Some n) undue (none-shown v none) oldest
 
 pub slice-next : (v w : Posted) → due_of v ≡ None → verified_of v ≡ [] → RunsSlice v w → IsNext v w
 slice-next v w undue none h = record {
   entries = slice_entries v h.name;
-  next = next-is v None false (Some h.name) undue (none-shown v none) h.oldest;
+  next = slice-follows v h.name undue none h.oldest;
   now = h.now;
 }
 
@@ -342,6 +350,3 @@ taken-is v u w n (Err fault) settles undue h = (n, subst (λ (x : Posted). Settl
 
 pub slice-quiet : (v w : Posted) → RunsSlice v w → ExtendsQuietly v w
 slice-quiet v w h = record { more = slice_entries v h.name; quiet = (tt, (tt, tt)); now = h.now }
-
-pub given_up-quiet : (v w : Posted) → GivesUp v w → ExtendsQuietly v w
-given_up-quiet v w h = record { more = E.Lend 0 h.name ∷ (E.Gone h.name ∷ []); quiet = (tt, (tt, tt)); now = h.now }

@@ -1,5 +1,5 @@
 -- A track that is lent, run by one slice and taken back.
-use Rattle.std.proofs.Common.{◌≡◌, false, [], ◌∷◌, Some, None, sym, ap, ap₂, ◌∙◌, subst}
+use Rattle.std.proofs.Common.{◌≡◌, ◌⊎◌, inl, inr, true, false, [], ◌∷◌, Some, None, sym, ap, ap₂, ◌∙◌, subst}
 use Rattle.std.proofs.lemmas.Option.{same_Some}
 use Rattle.speculation.specs.declared.tracks.Name.{Name}
 use Rattle.speculation.specs.declared.tracks.OpenLoan.{OpenLoan}
@@ -16,9 +16,9 @@ use Rattle.track_board.specs.declared.loan.Loan.{Loan}
 use Rattle.track_board.specs.declared.loan.Back.{Back}
 use Rattle.track_board.specs.declared.loan.Back.TheVariants.{Taken}
 use Rattle.track_board.specs.Value.{Posted, GuestCore, IsKnown, machine_of, core_of, posted}
-use Rattle.track_board.specs.Loans.{oldest_lendable, IsLent, IsReturned, back_by, back_entry}
+use Rattle.track_board.specs.Loans.{oldest_lendable, IsLent, IsReturned, WasDropped, back_by, back_entry}
 use Rattle.track_board.proofs.Foundation.{posted-core}
-use Rattle.worker_gate.specs.Rounds.{RunsSlice}
+use Rattle.worker_gate.specs.Rounds.{RunsSlice, GivesUp}
 use Rattle.worker_gate.proofs.OnRounds.{sound-of, extends-known, extended-twice}
 
 module _ (v w : Posted) (loan : Loan) (known : IsKnown w) (lent : IsLent v w 0 loan) where
@@ -66,6 +66,21 @@ module _ (v w : Posted) (loan : Loan) (known : IsKnown w) (lent : IsLent v w 0 l
     oldest = oldest;
     now = extended-twice v w x (E.Lend 0 loan.name ∷ []) (E.Back loan.name (slice_of (machine_of v) v.settings (find_track (core_of v) loan.name)) ∷ []) lent.entry (back-entry x r h);
   }
+
+  -- so the board is over once it is given up
+  given_up : (x : Posted) → oldest_lendable v ≡ Some loan.name → x ≡ posted w (E.Gone loan.name) → (over (core_of x) ≡ true) ⊎ WasDropped w loan.name → GivesUp v x
+  given_up x oldest gone (inl h) = record { name = loan.name; oldest = oldest; now = extended-twice v w x (E.Lend 0 loan.name ∷ []) (E.Gone loan.name ∷ []) lent.entry gone; over = h }
+  given_up x oldest gone (inr h) = absurd (let same : record { seat = 0; name = loan.name; dropped = None } ≡ h.0 = same_Some (record { seat = 0; name = loan.name; dropped = None }) h.0 (sym loan-lent ∙ h.1) in (let row = h.2.1 in cc))
+
+-- the track that went out was given up
+pub slice-lost : (v w x : Posted) (loan : Loan) (name : Name) → name ≡ loan.name → IsKnown w → IsLent v w 0 loan → oldest_lendable v ≡ Some loan.name
+    → x ≡ posted w (E.Gone name) → (over (core_of x) ≡ true) ⊎ WasDropped w name → GivesUp v x
+slice-lost v w x loan name same known lent oldest gone ends =
+    given_up v w loan known lent x oldest (gone ∙ ap (λ (n : Name). posted w (E.Gone n)) same) (subst (λ (n : Name). (over (core_of x) ≡ true) ⊎ WasDropped w n) same ends)
+
+-- it comes home
+pub slice-home : (v w x : Posted) (loan : Loan) (name : Name) (r : Back) → name ≡ loan.name → IsKnown w → IsLent v w 0 loan → IsReturned w x name r → r ≡ Taken
+slice-home v w x loan name r same known lent h = back-taken v w loan known lent x r (subst (λ (n : Name). IsReturned w x n r) same h)
 
 -- one slice of the oldest lendable track
 pub slice-taken : (v w x : Posted) (loan : Loan) (name : Name) (r : Back) → name ≡ loan.name → IsKnown w → IsLent v w 0 loan → oldest_lendable v ≡ Some loan.name → IsReturned w x name r → RunsSlice v x

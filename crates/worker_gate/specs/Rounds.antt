@@ -1,25 +1,23 @@
 -- The rounds of a conductor on one thread: the serial history, and what the two sinks got by then
-use Rattle.std.specs.Prelude.{◌≡◌, ℕ, zero, suc, ◌<◌, Bool, true, false, List, [], ◌∷◌, ◌++◌, Some, None, Result, Ok, Err, ◌⊎◌}
+use Rattle.std.specs.Prelude.{◌≡◌, ℕ, zero, suc, ◌<◌, Bool, true, false, List, [], ◌∷◌, ◌++◌, length, Some, None, Result, Ok, Err, ◌⊎◌}
 use Rattle.speculation.specs.declared.tracks.Name.{Name}
 use Rattle.speculation.specs.declared.history.Entry.{Entry}
 use Rattle.speculation.specs.declared.history.Entry.TheVariants as E
 use Rattle.speculation.specs.Run.{Mark}
-use Rattle.speculation.specs.Record.{output_of}
 use Rattle.speculation.specs.Core.{over, find_track}
 use Rattle.speculation.specs.Serial.{slice_of, serial_next}
 use Rattle.speculation_law.specs.Serial.{IsSerialSoFar}
-use Rattle.guest_streams.specs.GuestStreams.{Sinks, GetsAll, GetsPart, StopsShort}
+use Rattle.guest_streams.specs.GuestStreams.{Sinks, GetsAll, StopsShort}
 use Rattle.guest_streams.specs.declared.fault.OutputFault.{OutputFault}
 use Rattle.guest_streams.specs.declared.fault.OutputFault.TheVariants.{Write, NoMemory}
 use Rattle.track_board.specs.declared.outcome.Outcome.{Outcome}
-use Rattle.track_board.specs.Value.{Posted, machine_of, start_state, core_of}
+use Rattle.track_board.specs.Value.{Posted, machine_of, start_state, core_of, posted}
 use Rattle.track_board.specs.Loans.{oldest_lendable}
 use Rattle.track_board.specs.Settles.{Settles, due_of, verified_of, released_with, IsOutcome}
 use Rattle.track_board.specs.Others.{extended}
 use Rattle.worker_gate.specs.declared.conducted.Conducted.{Conducted}
 use Rattle.worker_gate.specs.declared.conducted.Conducted.TheVariants.{WriteFault}
 use Rattle.worker_gate.specs.declared.conducted.Conducted.TheVariants as C
-use Rattle.worker_gate.specs.Conducting.{IsSameRun, alone_of}
 
 -- ---- the steps of a round
 
@@ -50,11 +48,12 @@ pub record RunsSlice (v w : Posted) : Type 0 where
   pub oldest : oldest_lendable v ≡ Some name
   pub now : w ≡ extended v (slice_entries v name)
 
--- the track that went out to seat 0 was given up
+-- the track that went out to seat 0 was given up, and that halted the board
 pub record GivesUp (v w : Posted) : Type 0 where
   pub name : Name
   pub oldest : oldest_lendable v ≡ Some name
   pub now : w ≡ extended v (E.Lend 0 name ∷ (E.Gone name ∷ []))
+  pub over : over (core_of w) ≡ true
 
 -- there was no memory to lend a track, or for its slice
 abbrev pub SliceFails : Posted → Posted → Type 0
@@ -94,17 +93,28 @@ pub record IsAtEnd (w : Posted) : Type 0 where
   pub over : over (core_of w) ≡ true
   pub idle : serial_next (machine_of w) w.settings (core_of w) ≡ None
 
--- what the sinks have of an output that breaks off
-abbrev pub BreaksOff : OutputFault → Sinks → Sinks → List Mark → Type 0
-BreaksOff Write old new output = StopsShort old new output
-BreaksOff NoMemory old new output = GetsPart old new output
+-- What came next was a release: it was entered, and the sinks stopped short of its bytes.
+pub record ReleaseFails (v w : Posted) (old new : Sinks) : Type 0 where
+  pub next : serial_next (machine_of v) v.settings (core_of v) ≡ Some (E.Release (length (verified_of v)) ∷ [])
+  pub now : w ≡ posted v (E.Release (length (verified_of v)))
+  pub short : StopsShort old new (verified_of v)
 
--- what is left of the program's output after what was released by v breaks off
+-- What came next was a slice: there was no memory for it, and its track was given up.
+pub record LosesSlice (v w : Posted) : Type 0 where
+  pub gives_up : GivesUp v w
+  pub next : serial_next (machine_of v) v.settings (core_of v) ≡ Some (slice_entries v gives_up.name)
+
+-- what comes next in the serial history fails
+abbrev pub NextFails : OutputFault → Posted → Posted → Sinks → Sinks → Type 0
+NextFails Write v w old new = ReleaseFails v w old new
+NextFails NoMemory v w old new = ((w ≡ v) ⊎ LosesSlice v w) × (new ≡ old)
+
+-- the serial history goes on, and then what comes next fails
 pub record Breaks (v w : Posted) (old new : Sinks) (fault : OutputFault) : Type 0 where
-  pub same : IsSameRun v w
-  pub rest : List Mark
-  pub parts : (core_of v).released ++ rest ≡ output_of (alone_of v)
-  pub breaks : BreaksOff fault old new rest
+  pub before : Posted
+  pub between : Sinks
+  pub on : GoesOn v before old between
+  pub fails : NextFails fault before w between new
 
 -- a round did something and another one follows, or it was the last one
 abbrev pub IsRound : Posted → Posted → Sinks → Sinks → Bool → Type 0

@@ -5,6 +5,7 @@ ghost use Rattle.speculation.specs.Core.{over};
 ghost use Rattle.guest_streams.specs.GuestStreams.{WritesPiece};
 ghost use Rattle.track_board.specs.Value.{IsKnown, core_of};
 ghost use Rattle.worker_gate.specs.Conducting.{IsSameRun, Conducts};
+ghost use Rattle.worker_gate.specs.Failures.{AfterFailure};
 ghost use Rattle.worker_gate.specs.Rounds.{TakesVerified, SettlesSome, CanLend, RunsSlice, SliceFails, IsUnderway, RoundIs, RoundsAre, answer_to};
 
 use crate::conducted::Conducted;
@@ -12,16 +13,19 @@ use basic_types::NoMemory;
 use guest_streams::{OutputFault, write_piece};
 use held_output::Chunks;
 use host_io::{Failed, Sink};
-use track_board::{Board, Outcome};
+use track_board::{Back, Board, Outcome};
 
 /// The seat of the one thread.
 const SEAT: u64 = 0;
 
-/// Runs the program of a board to its end on one thread: it does what is due, writes what is released outside the board's calls, `out` for
-/// stream 1 and `notes` for stream 2, and lends the oldest lendable track to seat 0, a slice at a time.
+/// Runs the program of a board to its end on one thread: it does what is due, writes what is released outside the
+/// board's calls, `out` for stream 1 and `notes` for stream 2, and lends the oldest lendable track to seat 0, a slice
+/// at a time.
 ///
-/// After every answer the board is over: it has a finish, or it was halted, by seat 0 or by a track that was given up. What was released
-/// and not written is lost.
+/// After every answer the board is over. After a failure its entries are the serial history up to the step that
+/// failed. Behind it nothing is entered where the run has a finish, and else that seat 0 halted it, or that the track
+/// for whose slice there was no memory was lent and is gone. Only bytes of the last release can be unwritten, and only
+/// after a fault of a sink: these are lost.
 pub fn conduct_serial<O: Sink, N: Sink>(board: &mut Board, out: &mut O, notes: &mut N) -> Conducted
     requires fresh { board.old.entries ≡ [] }
     ensures conducts { Conducts board.new
@@ -31,6 +35,10 @@ pub fn conduct_serial<O: Sink, N: Sink>(board: &mut Board, out: &mut O, notes: &
     ensures over { over (core_of board.new) ≡ true }
     ensures same { IsSameRun board.old board.new }
     ensures known { IsKnown board.new }
+    ensures failure { AfterFailure board.new
+        (record { out = O.contents out.old; out_faults = O.faults out.old; notes = N.contents notes.old; notes_faults = N.faults notes.old })
+        (record { out = O.contents out.new; out_faults = O.faults out.new; notes = N.contents notes.new; notes_faults = N.faults notes.new })
+        result }
 {
     match go_rounds(board, out, notes) {
         Ok(outcome) => Conducted::Done(outcome),
@@ -54,8 +62,8 @@ fn answer_to(fault: OutputFault) -> Conducted
 /// Goes in rounds until the board is over, and answers what came of it.
 ///
 /// # Errors
-/// `Write` where a sink failed, and `NoMemory` where there was no room for a step of the board, for a slice, or for the outcome. The board
-/// may then go on.
+/// `Write` where a sink failed, and `NoMemory` where there was no room for a step of the board, for a slice, or for the
+/// outcome. Nothing was done behind the step that failed.
 fn go_rounds<O: Sink, N: Sink>(
     board: &mut Board,
     out: &mut O,
@@ -75,8 +83,8 @@ fn go_rounds<O: Sink, N: Sink>(
     }
 }
 
-/// Does all that is due, releases what is verified and writes it. Where that was nothing, the oldest lendable track runs one slice. It
-/// answers whether another round follows: it doesn't once the board is over.
+/// Does all that is due, releases what is verified and writes it. Where that was nothing, the oldest lendable track
+/// runs one slice. It answers whether another round follows: it doesn't once the board is over.
 ///
 /// # Errors
 /// `Write` where a sink failed, and `NoMemory` where there was no room for a step of the board or for the slice.
@@ -142,8 +150,8 @@ fn write_chunks<O: Sink, N: Sink>(chunks: &Chunks, out: &mut O, notes: &mut N) -
 /// Lends the oldest lendable track, runs it by one slice and takes it back.
 ///
 /// # Errors
-/// `NoMemory` where there was no room for the loan, and the board is as before, or for the slice: the track is then given up, which halts
-/// the board.
+/// `NoMemory` where there was no room for the loan, and the board is as before, or for the slice: the track is then
+/// given up, which halts the board.
 fn run_slice(board: &mut Board) -> Result<(), NoMemory>
     requires { CanLend board.old }
     ensures slice { MatchResult result (λ _. RunsSlice board.old board.new) (λ _. SliceFails board.old board.new) }
@@ -154,7 +162,10 @@ fn run_slice(board: &mut Board) -> Result<(), NoMemory>
     };
     match loan.run() {
         Ok(_) => {
-            board.back(loan);
+            // Nothing was entered behind the loan: no discard dropped the track, and the board isn't over.
+            let Back::Taken = board.back(loan) else {
+                unreachable!()
+            };
             Ok(())
         }
         Err(NoMemory) => {

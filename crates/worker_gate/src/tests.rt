@@ -61,6 +61,16 @@ const WRITES: [u32; 7] = [
     0x0000_0073, // ecall: exits
 ];
 
+/// Writes the byte 0x13 and then goes on for ever.
+const WRITES_AND_LOOPS: [u32; 6] = [
+    0x0010_0513, // li a0, 1
+    0x0001_05B7, // lui a1, 0x10
+    0x0010_0613, // li a2, 1
+    0x0400_0893, // li a7, 64
+    0x0000_0073, // ecall: writes the first byte of the program
+    0x0000_006F, // j 0
+];
+
 /// A board of this program, on which nothing has happened.
 fn board_of(alloc: Global, words: &[u32]) -> Result<Board, Fail>
     requires { length words.now ≤ 100 }
@@ -131,5 +141,19 @@ fn is_over_after_a_fault(rt: HostRuntime) -> Result<(), Fail> {
     assert!(rt; matches!(answer, Conducted::WriteFault));
     assert!(rt; board.over());
     assert!(rt; out.written().is_empty());
+    let lines = ["lend 0 0.0.f", "back 0.0.f 7", "finish", "release 1"];
+    assert_entries(&rt, &board.outcome()?, &lines);
+    Ok(())
+}
+
+#[test]
+fn halts_where_a_fault_came_before_the_end(rt: HostRuntime) -> Result<(), Fail> {
+    let mut board = board_of(rt.alloc(), &WRITES_AND_LOOPS)?;
+    let mut out = sink(rt.alloc(), &[0])?;
+    let mut notes = sink(rt.alloc(), &[])?;
+    let answer = conduct_serial(&mut board, &mut out, &mut notes);
+    assert!(rt; matches!(answer, Conducted::WriteFault));
+    let lines = ["lend 0 0.0.f", "back 0.0.f 65536", "release 1", "halt 0"];
+    assert_entries(&rt, &board.outcome()?, &lines);
     Ok(())
 }

@@ -1,5 +1,5 @@
 use Rattle.worker_gate.proofs.OnRounds.{by-extends}
-use Rattle.worker_gate.proofs.OnOutcomes.{underway-first, extends-same, on-whole, halted-conducts}
+use Rattle.worker_gate.proofs.OnOutcomes.{underway-first, extends-same, on-whole, failed-conducts, failed-same, failed-after}
 use Rattle.worker_gate.proofs.serial.conduct_serial.Goals as goal
 
 pub go_rounds-requires : goal.go_rounds-requires
@@ -17,4 +17,12 @@ returns-in-Ok-clause-same g c =
 
 pub returns-in-Err-clause-conducts : goal.returns-in-Err-clause-conducts
 returns-in-Err-clause-conducts g c =
-    rw c.answer_to.ensures (halted-conducts c.args.board.now c.go_rounds.new.board c.halt.new.self _ _ c.in-Err.fault c.requires.fresh c.in-Err.ensures.rounds c.halt.ensures.entry)
+    rw c.answer_to.ensures (failed-conducts c.args.board.now c.go_rounds.new.board c.halt.new.self _ _ c.requires.fresh c.go_rounds.ensures.known c.halt.ensures.entry c.in-Err.fault c.in-Err.ensures.rounds)
+
+pub returns-in-Err-clause-same : goal.returns-in-Err-clause-same
+returns-in-Err-clause-same g c =
+    failed-same c.args.board.now c.go_rounds.new.board c.halt.new.self _ _ c.requires.fresh c.go_rounds.ensures.known c.halt.ensures.entry c.in-Err.fault c.in-Err.ensures.rounds
+
+pub returns-in-Err-clause-failure : goal.returns-in-Err-clause-failure
+returns-in-Err-clause-failure g c =
+    rw c.answer_to.ensures (failed-after c.args.board.now c.go_rounds.new.board c.halt.new.self _ _ c.requires.fresh c.go_rounds.ensures.known c.halt.ensures.entry c.in-Err.fault c.in-Err.ensures.rounds)

@@ -4,7 +4,7 @@ use Rattle.worker_gate.proofs.OnOutcomes.{round-untaken, round-unwritten, round-
 use Rattle.worker_gate.proofs.serial.go_round.Goals as goal
 
 pub returns-in_default-clause-round : goal.returns-in_default-clause-round
-returns-in_default-clause-round g c = round-untaken c.args.board.now c.take_verified.new.board _ c.in_default.ensures.taken c.take_verified.ensures.known
+returns-in_default-clause-round g c = round-untaken c.args.board.now c.take_verified.new.board _ c.in_default.ensures.taken c.take_verified.ensures.known c.requires
 
 pub returns-in_default-write_chunks-clause-round : goal.returns-in_default-write_chunks-clause-round
 returns-in_default-write_chunks-clause-round g c =
@@ -33,4 +33,4 @@ returns-in-Ok-run_slice-clause-round g c =
 pub returns-clause-round : goal.returns-clause-round
 returns-clause-round g c =
     round-fails c.args.board.now c.take_verified.new.board c.in-Ok.verified c.in-Ok.ensures.taken c.take_verified.ensures.known c.requires
-    (none-bytes c.in-Ok.verified (sym c.is_empty.ensures ∙ c.if-not-is_empty.false)) c.run_slice.new.board _ _ c.in-Ok-write_chunks.ensures c.in-Err.ensures.slice c.run_slice.ensures.known
+    (none-bytes c.in-Ok.verified (sym c.is_empty.ensures ∙ c.if-not-is_empty.false)) c.run_slice.new.board _ _ c.in-Ok-write_chunks.ensures c.in-Err.ensures.slice

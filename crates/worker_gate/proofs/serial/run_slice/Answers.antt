@@ -1,8 +1,8 @@
-use Rattle.std.proofs.Common.{Option, subst}
+use Rattle.std.proofs.Common.{inr, Option, subst}
 use Rattle.track_board.specs.declared.loan.Loan.{Loan}
 use Rattle.track_board.specs.Loans.{LendIs}
 use Rattle.track_board.proofs.Seats.{lent-home}
-use Rattle.worker_gate.proofs.OnSlices.{slice-taken}
+use Rattle.worker_gate.proofs.OnSlices.{slice-home, slice-lost, slice-taken}
 use Rattle.worker_gate.proofs.serial.run_slice.Goals as goal
 
 pub back-requires-clause-ran : goal.back-requires-clause-ran
@@ -10,7 +10,17 @@ back-requires-clause-ran c = (lent-home c.args.board.now c.lend.new.self 0 c.in-
     (subst (λ (o : Option Loan). LendIs c.args.board.now c.lend.new.self 0 o) c.in-Some.is c.in_ok-loan.ensures.loan)
     c.in-Ok.ensures.name c.in-Ok.ensures.ran.0 c.in-Ok.ensures.ran.1).ran
 
-pub returns-in-Ok-clause-slice : goal.returns-in-Ok-clause-slice
-returns-in-Ok-clause-slice c =
+pub unreachable-requires-in_default-back : goal.unreachable-requires-in_default-back
+unreachable-requires-in_default-back c =
+    let lent = subst (λ (o : Option Loan). LendIs c.args.board.now c.lend.new.self 0 o) c.in-Some.is c.in_ok-loan.ensures.loan in
+    c.in_default-back.not-Taken (slice-home c.args.board.now c.lend.new.self c.back.new.self c.in-Some.loan c.run.new.self.name c.back.result c.in-Ok.ensures.name c.lend.ensures.known lent.0 c.back.ensures.returned)
+
+pub returns-in-Taken-clause-slice : goal.returns-in-Taken-clause-slice
+returns-in-Taken-clause-slice c =
     let lent = subst (λ (o : Option Loan). LendIs c.args.board.now c.lend.new.self 0 o) c.in-Some.is c.in_ok-loan.ensures.loan in
     slice-taken c.args.board.now c.lend.new.self c.back.new.self c.in-Some.loan c.run.new.self.name c.back.result c.in-Ok.ensures.name c.lend.ensures.known lent.0 lent.1 c.back.ensures.returned
+
+pub returns-in-Err-clause-slice : goal.returns-in-Err-clause-slice
+returns-in-Err-clause-slice c =
+    let lent = subst (λ (o : Option Loan). LendIs c.args.board.now c.lend.new.self 0 o) c.in-Some.is c.in_ok-loan.ensures.loan in
+    inr (slice-lost c.args.board.now c.lend.new.self c.give_up.new.self c.in-Some.loan c.run.new.self.name c.in-Err.ensures.name c.lend.ensures.known lent.0 lent.1 c.give_up.ensures.entry c.give_up.ensures.over)
