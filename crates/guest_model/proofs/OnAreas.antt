@@ -1,14 +1,13 @@
 -- What areas that rise without a common byte make of memory
-use Rattle.std.proofs.Common.{◌≡◌, ℕ, zero, suc, ◌+◌, ◌-◌, ◌%◌, ◌^◌, ◌<◌, ◌≤◌, Bool, true, false, cond, ◌&&◌, List, [], ◌∷◌, ◌++◌, length, get_or, Option, Some, None, ◌⊎◌, inl, inr, refl, sym, ap, ◌∙◌, subst, arith}
+use Rattle.std.proofs.Common.{◌≡◌, ℕ, zero, suc, ◌+◌, ◌-◌, ◌%◌, ◌<◌, ◌≤◌, Bool, true, false, ◌&&◌, List, [], ◌∷◌, length, get_or, Some, None, ◌⊎◌, inl, inr, refl, sym, ap, ◌∙◌, arith}
 use Rattle.std.specs.Prelude.{nat_le, nat_lt, slice_index, option_map}
-use Rattle.std.specs.List.{find, All, AllPairs}
-use Rattle.std.proofs.lemmas.Bool.{cond-true, cond-false, cases_lt}
+use Rattle.std.specs.List.{find, AllPairs}
+use Rattle.std.proofs.lemmas.Bool.{cond-true, cond-false}
 use Rattle.std.proofs.lemmas.Bool.Decides.{nat_tests}
 use Rattle.std.proofs.lemmas.Bool.{cases_eq}
 use Rattle.std.proofs.lemmas.Grind.{common_steps}
 use Rattle.std.proofs.Math.ListN.{set, length-set}
-use Rattle.guest_model.specs.ByteMap.{ByteMap}
-use Rattle.guest_model.specs.AreaMap.{covers, areas_bytes, IsBelow, IsWithinSpace, IsLayout}
+use Rattle.guest_model.specs.AreaMap.{covers, areas_bytes, IsBelow, IsLayout}
 use Rattle.guest_model.specs.declared.areas.Area.{Area}
 
 pub covers-inside : (x : Area) (q : ℕ) → x.base ≤ q → q < x.base + length x.bytes → covers x q ≡ true

@@ -1,13 +1,13 @@
 -- What the four words of memory tell: `mapped`, `bytes_from`, `load` and `write`
-use Rattle.std.proofs.Common.{◌≡◌, ℕ, zero, suc, ◌+◌, ◌-◌, ◌^◌, ◌<◌, ◌≤◌, Bool, true, false, ◌&&◌, List, [], ◌∷◌, ◌++◌, length, map, get_or, take, Option, Some, None, is_some, IsTrue, IsFalse, ◌⊎◌, inl, inr, refl, sym, ap, ◌∙◌, subst, add-zero, zero-add, arith, length-append}
-use Rattle.std.specs.Prelude.{nat_le, nat_lt, slice_index, unwrap_or}
-use Rattle.std.specs.Int.{Width, w8, byte_len, from_le_bytes}
+use Rattle.std.proofs.Common.{◌≡◌, ℕ, zero, suc, ◌+◌, ◌-◌, ◌^◌, ◌<◌, ◌≤◌, Bool, true, false, List, [], ◌∷◌, ◌++◌, length, get_or, Some, None, is_some, ◌⊎◌, inl, inr, refl, sym, ap, ◌∙◌, add-zero, zero-add, arith, length-append}
+use Rattle.std.specs.Prelude.{nat_le, slice_index}
+use Rattle.std.specs.Int.{Width, byte_len, from_le_bytes}
 use Rattle.std.specs.List.{list_all, range_with_len}
 use Rattle.std.proofs.Math.Path.{fun_ext}
-use Rattle.std.proofs.lemmas.Bool.{and_parts, and_from, le-leb, leb-true, leb-false, cases_lt}
+use Rattle.std.proofs.lemmas.Bool.{and_parts, and_from, le-leb, leb-true, cases_lt}
 use Rattle.std.proofs.lemmas.Bool.Decides.{nat_tests}
 use Rattle.std.proofs.lemmas.Grind.{common_steps}
-use Rattle.std.proofs.lemmas.List.FromFn.{length-map-range_with_len, get_or-map-range_with_len, fill_by_all, length-range_with_len}
+use Rattle.std.proofs.lemmas.List.FromFn.{length-map-range_with_len, get_or-map-range_with_len, fill_by_all}
 use Rattle.guest_model.specs.ByteMap.{ByteMap, byte, mapped, bytes_from, load, write}
 
 -- ---- a test of each address of a range

@@ -1,13 +1,13 @@
 -- A range of addresses that lies in one area
-use Rattle.std.proofs.Common.{◌≡◌, ℕ, zero, suc, ◌+◌, ◌-◌, ◌^◌, ◌<◌, ◌≤◌, Bool, true, false, List, [], ◌∷◌, ◌++◌, length, get_or, take, drop, Option, Some, None, is_some, ◌⊎◌, inl, inr, refl, sym, ap, ◌∙◌, subst, add-zero, arith, length-append, length-drop, get_or-set_same}
+use Rattle.std.proofs.Common.{◌≡◌, ℕ, ◌+◌, ◌-◌, ◌^◌, ◌<◌, ◌≤◌, Bool, true, false, List, [], ◌∷◌, ◌++◌, length, get_or, take, drop, Some, None, is_some, ◌⊎◌, inl, inr, refl, sym, ap, ◌∙◌, subst, add-zero, arith, length-append, length-drop, get_or-set_same}
 use Rattle.std.specs.Prelude.{slice_index, unwrap_or}
 use Rattle.std.proofs.lemmas.Bool.{cases_lt}
 use Rattle.std.proofs.lemmas.Grind.{common_steps}
 use Rattle.std.proofs.lemmas.List.{get_or_default, take_more}
 use Rattle.std.proofs.Math.ListN.{set, length-set, length-take}
-use Rattle.guest_model.specs.ByteMap.{ByteMap, byte, mapped, bytes_from, write}
+use Rattle.guest_model.specs.ByteMap.{ByteMap, mapped, write}
 use Rattle.guest_model.specs.AreaMap.{covers, areas_bytes, IsLayout}
-use Rattle.guest_model.specs.Place.{IsPlaceIn, IsPlace, LacksRange, HasNoPlace, IsPiece, Pastes}
+use Rattle.guest_model.specs.Place.{IsPlace, LacksRange, HasNoPlace, IsPiece, Pastes}
 use Rattle.guest_model.proofs.OnByteMap.{mapped-at, mapped-all, bytes_from-fill, write-is, write-outside, write-more}
 use Rattle.guest_model.proofs.OnAreas.{covers-before, covers-after, areas_bytes-at, areas_bytes-none, areas_bytes-set_outside, SameAddresses, SameAddresses-set, IsLayout-same}
 use Rattle.guest_model.specs.declared.areas.Area.{Area}

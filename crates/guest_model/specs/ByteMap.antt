@@ -1,6 +1,6 @@
 -- Memory as a map from address to byte (RISC-V Unprivileged ISA, chapter "Introduction", "Memory": one
 -- byte-addressed space of 2 ^ 32 bytes; little-endian)
-use Rattle.std.specs.Prelude.{◌≡◌, ℕ, ◌+◌, ◌-◌, ◌^◌, ◌<◌, ◌≤◌, Bool, true, false, ◌&&◌, nat_le, nat_lt, if◌then◌else◌, List, length, map, slice_index, Option, Some, None, Result, Ok, Err, is_some, unwrap_or, IsTrue, IsFalse}
+use Rattle.std.specs.Prelude.{◌≡◌, ℕ, ◌+◌, ◌-◌, ◌^◌, Bool, true, false, ◌&&◌, nat_le, nat_lt, if◌then◌else◌, List, length, map, slice_index, Option, Some, None, Result, Ok, Err, is_some, unwrap_or, IsTrue, IsFalse}
 use Rattle.std.specs.Int.{Width, byte_len, from_le_bytes}
 use Rattle.std.specs.List.{list_all, range_with_len}
 use Rattle.guest_model.specs.declared.memory.StoreFault.{StoreFault}

@@ -1,5 +1,5 @@
 -- Where two machine states differ first
-use Rattle.std.specs.Prelude.{◌≡◌, ℕ, zero, suc, ◌^◌, Bool, true, false, not, ◌==◌, if◌then◌else◌, List, [], ◌∷◌, Option, Some, None, option_map}
+use Rattle.std.specs.Prelude.{ℕ, zero, suc, ◌^◌, Bool, true, false, not, ◌==◌, if◌then◌else◌, List, [], ◌∷◌, Option, Some, None, option_map}
 use Rattle.guest_model.specs.ByteMap.{ByteMap}
 use Rattle.guest_model.specs.Registers.{RegFile, reg}
 use Rattle.guest_model.specs.MachineState.{MachineState}

@@ -1,6 +1,6 @@
 -- What each instruction does (RISC-V Unprivileged ISA, chapters RV32I and M). Every instruction but ECALL gives the
 -- next state or one trap, which changes nothing.
-use Rattle.std.specs.Prelude.{◌≡◌, ℕ, ◌%◌, ◌/◌, ◌*◌, ◌^◌, Bool, ◌==◌, if◌then◌else◌, ℤ, List, [], ◌∷◌, Option, Some, None, Result, Ok, Err, option_map}
+use Rattle.std.specs.Prelude.{ℕ, ◌%◌, ◌/◌, ◌*◌, ◌^◌, Bool, ◌==◌, if◌then◌else◌, ℤ, List, [], ◌∷◌, Option, Some, None, Result, Ok, Err, option_map}
 use Rattle.std.specs.Int.{w8, w16, w32, to_le_bytes}
 use Rattle.guest_model.specs.Word.{word_of, sum, sign_extend}
 use Rattle.guest_model.specs.Arithmetic.{imm_value, op_value, taken, upper_value}
@@ -10,7 +10,7 @@ use Rattle.guest_model.specs.MachineState.{MachineState}
 use Rattle.guest_model.specs.declared.end.Trap.{Trap}
 use Rattle.guest_model.specs.declared.end.Trap.TheVariants.{Misaligned, Breakpoint, LoadUnmapped, StoreUnmapped}
 use Rattle.guest_model.specs.declared.instr.Instr.{Instr}
-use Rattle.guest_model.specs.declared.instr.Instr.TheVariants.{Upper, Jal, Jalr, Branch, Load, Store, OpImm, Op, Fence, Ecall, Ebreak}
+use Rattle.guest_model.specs.declared.instr.Instr.TheVariants.{Upper, Jal, Jalr, Branch, Load, Store, OpImm, Op, Ebreak}
 use Rattle.guest_model.specs.declared.instr.LoadWidth.{LoadWidth}
 use Rattle.guest_model.specs.declared.instr.LoadWidth.TheVariants as L
 use Rattle.guest_model.specs.declared.instr.StoreWidth.{StoreWidth}

@@ -1,5 +1,5 @@
 -- The instruction table of RV32I and M (RISC-V Unprivileged ISA, chapter "RV32/64G Instruction Set Listings")
-use Rattle.std.specs.Prelude.{◌≡◌, ℕ, ◌<◌, ◌==◌, if◌then◌else◌, ℤ, pos, Option, Some, None, option_map}
+use Rattle.std.specs.Prelude.{◌≡◌, ℕ, ◌<◌, ◌==◌, if◌then◌else◌, pos, Option, Some, None, option_map}
 use Rattle.guest_model.specs.Word.{opcode, rd, funct3, rs1, rs2, funct7, imm_i, imm_s, imm_b, imm_u, imm_j}
 use Rattle.guest_model.specs.declared.instr.Instr.{Instr}
 use Rattle.guest_model.specs.declared.instr.Instr.TheVariants.{Upper, Jal, Jalr, Branch, Load, Store, OpImm, Op, Fence, Ecall, Ebreak}

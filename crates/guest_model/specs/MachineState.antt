@@ -1,5 +1,5 @@
 -- The machine state, and the one that a state over any memory stands for
-use Rattle.std.specs.Prelude.{◌≡◌, ℕ, ◌≤◌, ◌+◌}
+use Rattle.std.specs.Prelude.{ℕ}
 use Rattle.guest_model.specs.ByteMap.{ByteMap}
 use Rattle.guest_model.specs.Registers.{RegFile}
 use Rattle.guest_model.specs.declared.state.Heap.{Heap}

@@ -1,8 +1,7 @@
 -- RV32IM with the services as a machine of the theory: its plain runs answer FastTrack by 0
-use Rattle.std.specs.Prelude.{ℕ, true, false, List}
+use Rattle.std.specs.Prelude.{ℕ, false, List}
 use Rattle.speculation.specs.Machine.{Machine}
-use Rattle.speculation.specs.Record.{Ran, alone}
-use Rattle.guest_model.specs.Registers.{next, with_result}
+use Rattle.guest_model.specs.Registers.{with_result}
 use Rattle.guest_model.specs.MachineState.{MachineState}
 use Rattle.guest_model.specs.Difference.{difference}
 use Rattle.guest_model.specs.Step.{step, at_fast, at_end}

@@ -1,19 +1,18 @@
 -- One instruction: fetch, decode, effect or service; and the calls that open and close a dual region
-use Rattle.std.specs.Prelude.{◌≡◌, ℕ, Bool, true, false, ◌&&◌, ◌<◌, ◌==◌, List, [], Option, Some, None, Result, Ok, Err, IsTrue}
+use Rattle.std.specs.Prelude.{ℕ, Bool, false, ◌&&◌, ◌==◌, List, [], Option, Some, None, Result, Ok, Err}
 use Rattle.std.specs.Int.{w32}
-use Rattle.speculation.specs.Machine.{Stepped, Next, Ends}
-use Rattle.guest_model.specs.ByteMap.{ByteMap, load, mapped, bytes_from}
-use Rattle.guest_model.specs.Registers.{RegFile, reg}
+use Rattle.speculation.specs.Machine.{Next, Ends}
+use Rattle.guest_model.specs.ByteMap.{load}
+use Rattle.guest_model.specs.Registers.{reg}
 use Rattle.guest_model.specs.MachineState.{MachineState}
 use Rattle.guest_model.specs.InstructionTable.{instr}
 use Rattle.guest_model.specs.Effect.{effect}
 use Rattle.guest_model.specs.Service.{Outcome, service}
-use Rattle.guest_model.specs.declared.end.End.{End}
 use Rattle.guest_model.specs.declared.end.End.TheVariants as E
 use Rattle.guest_model.specs.declared.end.Trap.{Trap}
 use Rattle.guest_model.specs.declared.end.Trap.TheVariants.{FetchUnmapped, Illegal}
 use Rattle.guest_model.specs.declared.instr.Instr.{Instr}
-use Rattle.guest_model.specs.declared.instr.Instr.TheVariants.{Upper, Jal, Jalr, Branch, Load, Store, OpImm, Op, Fence, Ecall, Ebreak}
+use Rattle.guest_model.specs.declared.instr.Instr.TheVariants.{Ecall}
 
 -- an effect as the outcome of a step; a trap ends the program and names the pc of its instruction
 abbrev pub after_effect : ℕ → Result MachineState Trap → Outcome

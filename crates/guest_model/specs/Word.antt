@@ -1,6 +1,6 @@
 -- Words and their fields (RISC-V Unprivileged ISA, chapter RV32I, "Base Instruction Formats" and "Immediate Encoding
 -- Variants")
-use Rattle.std.specs.Prelude.{ℕ, ◌+◌, ◌-◌, ◌*◌, ◌/◌, ◌%◌, ◌^◌, Bool, nat_lt, if◌then◌else◌, ℤ, pos, ◌-ℤ◌}
+use Rattle.std.specs.Prelude.{ℕ, ◌+◌, ◌-◌, ◌*◌, ◌/◌, ◌%◌, ◌^◌, nat_lt, if◌then◌else◌, ℤ, pos, ◌-ℤ◌}
 use Rattle.std.specs.Int.{w32, cast_signed, cast_unsigned}
 
 -- bits hi to lo of a word, as a number

@@ -1,17 +1,14 @@
 -- The ledger and the end of a program, part by part
-use Rattle.std.proofs.Common.{◌≡◌, ◌≢◌, ℕ, zero, suc, ◌+◌, ◌-◌, ◌<◌, ◌≤◌, Bool, true, false, List, [], ◌∷◌, ◌++◌, Option, Some, None, refl, sym, ap, ap₂, ◌∙◌, subst, inl, inr, arith}
+use Rattle.std.proofs.Common.{◌≡◌, ℕ, zero, suc, ◌+◌, ◌-◌, ◌<◌, ◌≤◌, false, Some, None, refl, sym, ap, ap₂, ◌∙◌, subst, inl, inr, arith}
 use Rattle.std.proofs.lemmas.Bool.{cases_lt}
-use Rattle.speculation.specs.declared.tracks.Kind.TheVariants.{Normal, Segment}
+use Rattle.speculation.specs.declared.tracks.Kind.TheVariants.{Normal}
 use Rattle.speculation.specs.Machine.{Machine}
 use Rattle.speculation.specs.Run.{Point, fresh, go, taken}
 use Rattle.speculation.specs.Tracks.{boundary}
-use Rattle.speculation.specs.Ledger.{Row, ledger_from}
-use Rattle.speculation.specs.Record.{alone}
 use Rattle.speculation.proofs.Runs.{go-add, go-stays, taken-add, taken-stays, taken-going, taken-ends}
-use Rattle.speculation.proofs.Records.{end-alone, count-alone}
 use Rattle.speculation_law.specs.Facts.{NoStop, Unstopped}
 use Rattle.speculation_law.proofs.Verdicts.{boundary-ended}
-use Rattle.speculation_law.proofs.Walks.{fresh-point, ledger_from-unclosed, ledger_from-segment, ledger_from-segment_ends, ledger_from-segment_spent}
+use Rattle.speculation_law.proofs.Walks.{fresh-point}
 
 module _ {S E D : Type 0} (m : Machine S E D) where
   -- ---- ends

@@ -1,5 +1,5 @@
 -- Tracks that are run on within a limit
-use Rattle.std.proofs.Common.{◌≡◌, ◌≢◌, ℕ, zero, suc, ◌+◌, ◌-◌, ◌<◌, ◌≤◌, Bool, true, false, cond, ◌&&◌, ◌||◌, List, [], ◌∷◌, ◌++◌, length, Option, Some, None, is_some, unwrap_or, nat_eq, nat_lt, nat_le, refl, sym, ap, ap₂, ◌∙◌, subst, inl, inr, append-nil, arith}
+use Rattle.std.proofs.Common.{◌≡◌, ◌≢◌, ℕ, zero, suc, ◌+◌, ◌-◌, ◌<◌, ◌≤◌, Bool, true, false, cond, ◌||◌, List, [], ◌∷◌, ◌++◌, Option, Some, None, is_some, unwrap_or, nat_eq, nat_le, refl, sym, ap, ap₂, ◌∙◌, subst, inl, inr, append-nil, arith}
 use Rattle.std.proofs.lemmas.Bool.{cases_lt, le-leb, lt-leb, ne_eqb, or_parts, false≢true}
 use Rattle.speculation.specs.declared.tracks.Kind.{Kind}
 use Rattle.speculation.specs.declared.tracks.Kind.TheVariants.{Normal, Fast, Segment}
@@ -15,9 +15,7 @@ use Rattle.guest_model.specs.MachineState.{MachineState}
 use Rattle.guest_model.specs.Rv32.{rv32}
 use Rattle.guest_model.specs.declared.end.End.{End}
 use Rattle.rv32_law.specs.GuestStates.{IsGuestState}
-use Rattle.track_state.specs.declared.stop.Stop.{Stop}
-use Rattle.track_state.specs.declared.stop.Stop.TheVariants.{Boundary, Ended, Budget}
-use Rattle.track_state.specs.Views.{TrackView, core_track, begun, is_at_boundary, stop_by, stop_of}
+use Rattle.track_state.specs.Views.{TrackView, core_track, begun, is_at_boundary}
 use Rattle.track_state.specs.Runs.{RunsOver, has_stop_within, rests_after, run_length, RanOn}
 use Rattle.region_trial.specs.Reached.{IsUnderWay, RunsOn}
 

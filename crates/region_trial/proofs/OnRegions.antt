@@ -1,5 +1,5 @@
 -- The program from a segment's start, or from an opening call, up to the end of its next region
-use Rattle.std.proofs.Common.{◌≡◌, ◌≢◌, ℕ, zero, suc, ◌+◌, ◌-◌, ◌<◌, ◌≤◌, Bool, true, false, List, [], ◌∷◌, Option, Some, None, refl, sym, ap, ap₂, ◌∙◌, subst, inl, inr, arith}
+use Rattle.std.proofs.Common.{◌≡◌, ◌≢◌, ℕ, zero, suc, ◌+◌, ◌-◌, ◌<◌, ◌≤◌, true, List, [], ◌∷◌, Option, Some, None, refl, sym, ap, ap₂, ◌∙◌, subst, inl, inr, arith}
 use Rattle.std.proofs.lemmas.Bool.{cases_lt, false≢true}
 use Rattle.speculation.specs.declared.tracks.Kind.{Kind}
 use Rattle.speculation.specs.declared.tracks.Kind.TheVariants.{Normal, Fast, Segment}
@@ -24,7 +24,6 @@ use Rattle.guest_model.specs.declared.end.End.TheVariants as E
 use Rattle.rv32_law.specs.GuestStates.{IsGuestState}
 use Rattle.rv32_law.proofs.Reached.{IsOwnEnd, point-own_end, point-keeps}
 use Rattle.track_state.specs.Views.{TrackView, begun}
-use Rattle.track_state.specs.Runs.{RunsOver}
 use Rattle.region_ledger.specs.Ledger.{core_end, core_finished, judged, ledger_row}
 use Rattle.region_ledger.specs.declared.row.Row.{Row}
 use Rattle.region_ledger.specs.declared.finished.Finished.{Finished}

@@ -1,19 +1,18 @@
 -- A trial that has come to some state
-use Rattle.std.proofs.Common.{◌≡◌, ℕ, suc, ◌+◌, ◌-◌, ◌<◌, ◌≤◌, List, [], ◌∷◌, ◌++◌, length, map, refl, sym, ap, ap₂, ◌∙◌, subst, append_assoc, append-nil, length-append, arith}
+use Rattle.std.proofs.Common.{◌≡◌, ℕ, suc, ◌+◌, ◌-◌, ◌<◌, ◌≤◌, List, [], ◌∷◌, ◌++◌, length, refl, sym, ap, ap₂, ◌∙◌, subst, append_assoc, append-nil, length-append, arith}
 use Rattle.std.specs.Prelude.{All}
 use Rattle.std.proofs.lemmas.List.Elements.{All-nil, All-cons}
 use Rattle.speculation.specs.declared.tracks.Kind.TheVariants.{Segment}
 use Rattle.speculation.specs.Run.{Point, fresh, go, taken}
 use Rattle.speculation.specs.Record.{alone}
-use Rattle.speculation.specs.Ledger.{Row as LedgerRow, ledger, ledger_from, originals}
+use Rattle.speculation.specs.Ledger.{ledger, ledger_from}
 use Rattle.speculation.proofs.Records.{end-alone, count-alone}
 use Rattle.speculation_law.specs.Totals.{RowsWithin, FastWithin, Totalled}
 use Rattle.speculation_law.proofs.Totals.{totalled}
 use Rattle.guest_model.specs.MachineState.{MachineState}
-use Rattle.guest_model.specs.Image.{program_alone, start_of}
+use Rattle.guest_model.specs.Image.{start_of}
 use Rattle.guest_model.specs.Rv32.{rv32}
 use Rattle.guest_model.specs.declared.end.End.{End}
-use Rattle.guest_model.specs.declared.difference.Difference.{Difference}
 use Rattle.rv32_law.specs.GuestStates.{IsGuestState}
 use Rattle.elf32_loader.specs.LoadedImage.{image_of_loaded}
 use Rattle.elf32_loader.specs.declared.loaded.Loaded.{Loaded}

@@ -23,18 +23,18 @@ use Rattle.guest_model.specs.declared.end.End.{End}
 use Rattle.rv32_law.specs.GuestStates.{IsGuestState}
 use Rattle.rv32_law.proofs.Differences.{exact-rv32}
 use Rattle.rv32_law.proofs.Starts.{start-is-guest}
-use Rattle.track_state.specs.Views.{view_of, core_track}
+use Rattle.track_state.specs.Views.{view_of}
 use Rattle.track_state.specs.Runs.{RunsOver, RanOn, run_length}
 use Rattle.track_state.specs.declared.track.Track.{Track}
 use Rattle.track_state.proofs.OnTracks.{length_slice}
 use Rattle.track_board.specs.declared.loan.Loan.{Loan}
 use Rattle.track_board.specs.declared.loan.Back.{Back}
 use Rattle.track_board.specs.declared.loan.Back.TheVariants.{Taken, Dropped, Over}
-use Rattle.track_board.specs.Value.{Posted, GuestCore, IsKnown, machine_of, start_state, run_of, core_of, posted}
+use Rattle.track_board.specs.Value.{Posted, GuestCore, IsKnown, machine_of, start_state, core_of, posted}
 use Rattle.track_board.specs.Parts.{TrackStands}
-use Rattle.track_board.specs.Loans.{IsLoanOf, IsLent, HasRunOn, HasRun, IsReturned, back_entry}
-use Rattle.track_board.specs.Settles.{Acted, Settles, released_with}
-use Rattle.track_board.specs.Others.{extended, OthersAct, HasLive, IsOut, MayComeHome}
+use Rattle.track_board.specs.Loans.{IsLoanOf, IsLent, IsReturned, back_entry}
+use Rattle.track_board.specs.Settles.{Settles, released_with}
+use Rattle.track_board.specs.Others.{extended, OthersAct, IsOut, MayComeHome}
 
 -- ---- one loan
 

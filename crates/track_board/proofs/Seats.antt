@@ -1,7 +1,6 @@
 -- The loans of several seats while one of them acts.
-use Rattle.std.proofs.Common.{◌≡◌, ◌≢◌, ◌⊎◌, inl, inr, ℕ, zero, suc, ◌<◌, ◌+◌, List, [], ◌∷◌, ◌++◌, Option, Some, None, length, slice_get, slice_set, refl, sym, ap, ◌∙◌, subst, arith}
+use Rattle.std.proofs.Common.{◌≡◌, ◌≢◌, ◌⊎◌, inl, inr, ℕ, zero, suc, ◌+◌, List, [], ◌∷◌, ◌++◌, Option, Some, None, length, slice_get, slice_set, refl, sym, ap, subst, arith}
 use Rattle.std.proofs.lemmas.Option.{same_Some, slice_get_within}
-use Rattle.speculation.specs.Run.{Mark}
 use Rattle.track_state.specs.Views.{view_of}
 use Rattle.speculation.specs.Core.{most_slice}
 use Rattle.track_state.specs.Runs.{RunsOver, RanOn, run_length}

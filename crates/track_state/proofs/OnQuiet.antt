@@ -1,11 +1,11 @@
 -- Runs of instructions that change registers alone
-use Rattle.std.proofs.Common.{◌≡◌, ℕ, zero, suc, ◌+◌, ◌*◌, ◌^◌, ◌<◌, ◌≤◌, ◌&&◌, Bool, true, false, List, [], ◌∷◌, Some, get_or, is_some, refl, sym, ap, ◌∙◌, subst, add-one, add-zero, arith}
+use Rattle.std.proofs.Common.{◌≡◌, ℕ, zero, suc, ◌+◌, ◌*◌, ◌<◌, ◌≤◌, ◌&&◌, true, false, List, [], ◌∷◌, Some, get_or, is_some, refl, sym, ap, ◌∙◌, subst, add-one, add-zero, arith}
 use Rattle.std.specs.Prelude.{◌==◌, slice_index, unwrap_or}
 use Rattle.std.specs.Int.{w32, from_le_bytes}
 use Rattle.speculation.specs.declared.tracks.Kind.{Kind}
 use Rattle.speculation.specs.declared.tracks.Kind.TheVariants.{Normal, Fast, Segment}
 use Rattle.speculation.specs.Run.{Piece}
-use Rattle.guest_model.specs.ByteMap.{ByteMap, byte, load, mapped, bytes_from}
+use Rattle.guest_model.specs.ByteMap.{ByteMap, load, mapped, bytes_from}
 use Rattle.guest_model.specs.Registers.{RegFile, reg}
 use Rattle.guest_model.specs.MachineState.{MachineState}
 use Rattle.guest_model.specs.declared.state.Heap.{Heap}
@@ -15,7 +15,7 @@ use Rattle.paged_image.specs.Pages.{IsPage}
 use Rattle.rv32_step.specs.RegisterSteps.{StepsRegisters}
 use Rattle.rv32_step.specs.declared.on_registers.RegisterStep.TheVariants.{Next}
 use Rattle.track_state.specs.Progress.{halts}
-use Rattle.track_state.specs.Quiet.{IsQuiet, QuietSteps, QuietRegisters, seen}
+use Rattle.track_state.specs.Quiet.{QuietSteps, QuietRegisters, seen}
 use Rattle.track_state.proofs.OnProgress.{SoFar, SoFar-quiet}
 
 -- ---- a word on a page

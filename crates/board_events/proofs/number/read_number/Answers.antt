@@ -1,4 +1,4 @@
-use Rattle.std.proofs.Common.{◌≡◌, ℕ, ◌≢◌, ◌∙◌, ap, sym, length, get_or, unwrap_or, arith}
+use Rattle.std.proofs.Common.{◌≡◌, ◌≢◌, ◌∙◌, ap, sym, length, get_or, unwrap_or, arith}
 use Rattle.board_events.proofs.Numbers.{decimal_first, decimal_zero, parsed_is, parsed_none, first_byte}
 use Rattle.board_events.proofs.number.read_number.Goals as goal
 use Rattle.board_events.proofs.number.read_number.Goals.{else-first-eq48-via-then-first-eq48+else-digits-ne1, else-first-eq48-via-else-first-eq48}

@@ -1,4 +1,4 @@
-use Rattle.std.proofs.Common.{◌≡◌, Some, None, sym}
+use Rattle.std.proofs.Common.{Some, None, sym}
 use Rattle.board_events.proofs.Lines.{no_name, dot_once, dot_twice}
 use Rattle.board_events.proofs.read.read_name.Goals as goal
 

@@ -1,4 +1,4 @@
-use Rattle.std.proofs.Common.{◌≡◌, ℕ, ◌<◌, ◌≤◌, length, sym, ◌∙◌, arith}
+use Rattle.std.proofs.Common.{length, sym, arith}
 use Rattle.guest_model.specs.AreaMap.{areas_bytes}
 use Rattle.guest_model.proofs.OnByteMap.{bytes_from-fill}
 use Rattle.guest_model.proofs.access.copy_across.Goals as goal

@@ -1,4 +1,4 @@
-use Rattle.std.proofs.Common.{◌≡◌, ℕ, ◌+◌, ◌<◌, ◌≤◌, true, false, is_some, None, Some, Option, Bool, not, refl, sym, ap, ◌∙◌, below_more, arith}
+use Rattle.std.proofs.Common.{◌≡◌, ℕ, ◌+◌, true, false, is_some, None, Some, Option, Bool, not, refl, sym, ap, ◌∙◌, below_more, arith}
 use Rattle.guest_model.specs.AreaMap.{areas_bytes}
 use Rattle.guest_model.proofs.OnByteMap.{mapped-all, mapped-past, mapped-absent}
 use Rattle.guest_model.proofs.access.mapped_across.Goals as goal

@@ -1,7 +1,6 @@
-use Rattle.std.proofs.Common.{◌≡◌, refl, slice_index_or, arith}
-use Rattle.region_ledger.specs.declared.row.Row.{Row}
-use Rattle.region_ledger.specs.declared.verdict.Verdict.TheVariants.{Kept, Differs, Stopped, Late}
-use Rattle.region_ledger.proofs.OnTotals.{AddsRow, adds_kept, kept_fits, counts_next_by, counts_all}
+use Rattle.std.proofs.Common.{refl, arith}
+use Rattle.region_ledger.specs.declared.verdict.Verdict.TheVariants.{Kept}
+use Rattle.region_ledger.proofs.OnTotals.{adds_kept, kept_fits, counts_next_by, counts_all}
 use Rattle.region_ledger.proofs.tally.totals.Goals as goal
 use Rattle.region_ledger.proofs.tally.totals.Goals.{in-Kept, in-Differs, in-Stopped, in-Late}
 

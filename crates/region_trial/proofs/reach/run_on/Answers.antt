@@ -1,6 +1,6 @@
-use Rattle.std.proofs.Common.{◌≡◌, ℕ, ◌-◌, ◌<◌, ap, ap₂, ◌∙◌, sym, subst, arith}
+use Rattle.std.proofs.Common.{◌≡◌, ◌-◌, ◌<◌, ap, ◌∙◌, sym, subst}
 use Rattle.speculation.specs.Events.{left_over}
-use Rattle.track_state.specs.Views.{TrackView, view_of}
+use Rattle.track_state.specs.Views.{view_of}
 use Rattle.track_state.specs.Runs.{run_length}
 use Rattle.region_trial.specs.Reached.{RunsOn}
 use Rattle.region_trial.proofs.OnReach.{IsFurther, further, taken-some}

@@ -1,9 +1,9 @@
-use Rattle.std.proofs.Common.{◌≡◌, ℕ, Some, ap, ◌∙◌, subst, sym}
+use Rattle.std.proofs.Common.{◌≡◌, ap, ◌∙◌, subst, sym}
 use Rattle.speculation.specs.Ledger.{row_at}
 use Rattle.speculation.specs.Verdicts.{judge}
 use Rattle.guest_model.specs.Rv32.{rv32}
 use Rattle.track_state.specs.Views.{view_of}
-use Rattle.region_ledger.specs.Ledger.{ledger_row, seen, judged}
+use Rattle.region_ledger.specs.Ledger.{ledger_row, seen}
 use Rattle.region_trial.proofs.OnRegions.{row-is}
 use Rattle.region_trial.proofs.region.judge_fast.Goals as goal
 

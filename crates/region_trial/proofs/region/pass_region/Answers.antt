@@ -1,8 +1,6 @@
-use Rattle.std.proofs.Common.{◌≡◌, ℕ, ◌+◌, Some, None, ap, ◌∙◌, sym, subst}
+use Rattle.std.proofs.Common.{◌≡◌, ℕ, ◌+◌, Some, ap, ◌∙◌, sym, subst}
 use Rattle.speculation.specs.declared.tracks.Kind.TheVariants.{Normal, Segment}
-use Rattle.guest_model.specs.MachineState.{MachineState}
-use Rattle.guest_model.specs.Step.{at_fast}
-use Rattle.track_state.specs.Views.{TrackView, view_of, begun}
+use Rattle.track_state.specs.Views.{view_of, begun}
 use Rattle.track_state.proofs.OnTracks.{is_track}
 use Rattle.region_trial.specs.Reached.{IsUnderWay}
 use Rattle.region_trial.specs.Finished.{finished_at}

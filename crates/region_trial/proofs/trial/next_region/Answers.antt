@@ -1,7 +1,7 @@
-use Rattle.std.proofs.Common.{◌≡◌, ℕ, ◌+◌, ◌-◌, Some, None, ap, ◌∙◌, sym, subst}
+use Rattle.std.proofs.Common.{◌≡◌, ◌+◌, ◌-◌, Some, ap, ◌∙◌, sym, subst}
 use Rattle.std.proofs.lemmas.Result.{IfOk-weaker}
 use Rattle.speculation.specs.declared.tracks.Kind.TheVariants.{Segment}
-use Rattle.track_state.specs.Views.{TrackView, view_of, begun}
+use Rattle.track_state.specs.Views.{view_of}
 use Rattle.region_trial.specs.Reached.{IsUnderWay}
 use Rattle.region_trial.specs.Finished.{finished_at}
 use Rattle.region_trial.specs.Regions.{Finishes, Steps}

@@ -1,13 +1,10 @@
-use Rattle.std.proofs.Common.{◌≡◌, ◌++◌, ◌+◌, ◌-◌, [], ◌∷◌, List, length, refl, ap, ◌∙◌, sym, subst}
+use Rattle.std.proofs.Common.{◌+◌, ◌-◌, List, refl, ap, ◌∙◌, sym, subst}
 use Rattle.speculation.specs.declared.tracks.Kind.TheVariants.{Segment}
-use Rattle.guest_model.specs.MachineState.{MachineState}
 use Rattle.guest_model.specs.Image.{start_of}
 use Rattle.rv32_law.proofs.Starts.{start-is-guest}
 use Rattle.elf32_loader.specs.LoadedImage.{image_of_loaded}
-use Rattle.track_state.specs.Kept.{flat_state}
 use Rattle.track_state.specs.Views.{view_of, begun}
 use Rattle.region_ledger.specs.declared.row.Row.{Row}
-use Rattle.region_trial.specs.Trials.{IsTrialOf}
 use Rattle.region_trial.specs.Regions.{Passes, Finishes, Steps}
 use Rattle.region_trial.proofs.OnTrials.{SoFar, so_far-first, so_far-next, trial-is}
 use Rattle.region_trial.proofs.trial.run_trial.Goals as goal

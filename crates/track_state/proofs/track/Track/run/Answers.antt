@@ -1,10 +1,7 @@
 use Rattle.std.proofs.Common.{◌+◌, ◌<◌, ◌≤◌, subst, arith}
 use Rattle.speculation.specs.Run.{Point}
 use Rattle.speculation.specs.Core.{held_size, most_held}
-use Rattle.guest_model.specs.Registers.{IsRegFile}
 use Rattle.guest_model.specs.MachineState.{MachineState}
-use Rattle.guest_model.specs.declared.state.State.{State}
-use Rattle.paged_image.specs.declared.image.PagedImage.{PagedImage}
 use Rattle.guest_model.specs.declared.end.End.{End}
 use Rattle.paged_image.specs.Image.{content-bounded}
 use Rattle.rv32_law.specs.GuestStates.{IsGuestState, SharesLayout}
