@@ -17,7 +17,7 @@ use Rattle.program_words.specs.declared.request.Task.TheVariants.{Alone, Run, Tr
 use Rattle.fasttrack_program.specs.declared.options.Options.{Options}
 use Rattle.fasttrack_program.specs.declared.answer.Answer.{Answer}
 use Rattle.fasttrack_program.specs.declared.answer.Answer.TheVariants.{Exited, Trapped, Spent, Shown, Usage, ReadFault, ImageTooLong, BadImage, InputTooLong, WriteFault, NoMemory}
-use Rattle.fasttrack_program.specs.AnswerLine.{line_of, unless_told, IsSaidFor, Tells, Concludes}
+use Rattle.fasttrack_program.specs.AnswerLine.{HasNumbers, line_of, unless_told, IsSaidFor, Tells, Concludes}
 use Rattle.fasttrack_program.specs.Plan.{Refusal, LongImage, LongInput, Refused, Runs, options_of, refused_file, image_in, image_limit, input_limit, with_image, bench_regions, bench_image, with_bench, bench_plan, plan_of, plan}
 use Rattle.fasttrack_program.specs.Serving.{handed_by, completes, with_history}
 use Rattle.fasttrack_program.specs.TopCall.{settings_of, HasHistory, HasHistoryOf, hands_out, histories_after}
@@ -188,3 +188,16 @@ said-for answer said (inr e) is =
 -- it is the answer that was served
 pub read_fault-served : (old new : Option (List ℕ)) (faults faults' : ℕ) (answer result : Answer) → Concludes old new faults faults' answer result → result ≡ ReadFault → answer ≡ ReadFault
 read_fault-served old new faults faults' answer result c e = said-for answer c.said c.for_answer (said-tells old new faults faults' c.said result (line_of c.said) c.tells e)
+
+told-tells : (old new : Option (List ℕ)) (faults faults' : ℕ) (said result : Answer) (line : Option (List ℕ)) → Tells old new faults faults' said result line → said ≡ ReadFault → result ≡ ReadFault
+told-tells old new faults faults' said result None h e = h.2 ∙ e
+told-tells old new faults faults' said result (Some line) (inl h) e = h.2 ∙ e
+told-tells old new faults faults' said result (Some line) (inr h) e = h.4 ∙ ap unless_told e
+
+told-for : (answer said : Answer) → IsSaidFor answer said → answer ≡ ReadFault → said ≡ ReadFault
+told-for answer said (inl e) is = e ∙ is
+told-for answer said (inr e) is = absurd (subst HasNumbers is e.1)
+
+-- and where it was served it is the answer
+pub read_fault-told : (old new : Option (List ℕ)) (faults faults' : ℕ) (answer result : Answer) → Concludes old new faults faults' answer result → answer ≡ ReadFault → result ≡ ReadFault
+read_fault-told old new faults faults' answer result c e = told-tells old new faults faults' c.said result (line_of c.said) c.tells (told-for answer c.said c.for_answer e)

@@ -231,6 +231,23 @@ late-runs task i input o old new v d e = early-runs task i input o d.entries old
 pub counted-read : (T : Type 0) (old new : ℕ) (a : Answer) (v : Served) → CountsReadFault {T = T} old new (Err a) → v ≡ plainly a → v.answer ≡ ReadFault → Rose old new
 counted-read T old new a v h e is = subst (λ x. CountsReadFault {T = T} old new (Err x)) (sym (ap (λ (x : Served). x.answer) e) ∙ is) h
 
+calm-read_by : (T : Type 0) (old new : ℕ) (a : Answer) → CountsReadFault {T = T} old new (Err a) → (a ≡ ReadFault → ⊥) → new ≡ old
+calm-read_by T old new ReadFault h other = absurd (other refl)
+calm-read_by T old new (Exited c) h other = h
+calm-read_by T old new (Trapped t pc) h other = h
+calm-read_by T old new Spent h other = h
+calm-read_by T old new Shown h other = h
+calm-read_by T old new Usage h other = h
+calm-read_by T old new ImageTooLong h other = h
+calm-read_by T old new (BadImage f) h other = h
+calm-read_by T old new InputTooLong h other = h
+calm-read_by T old new WriteFault h other = h
+calm-read_by T old new NoMemory h other = h
+
+-- any other refusal of the image, or of the input, comes without a read fault
+pub calm-read : (T : Type 0) (old new : ℕ) (a : Answer) (v : Served) → CountsReadFault {T = T} old new (Err a) → v ≡ plainly a → (v.answer ≡ ReadFault → ⊥) → new ≡ old
+calm-read T old new a v h e other = calm-read_by T old new a h (λ is. other (ap (λ (x : Served). x.answer) e ∙ is))
+
 -- ---- an answer whose line could not be made
 
 -- what is said of a guest's end, or of a faulty image, holds of want of memory too

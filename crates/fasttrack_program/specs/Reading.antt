@@ -35,3 +35,7 @@ ReadsInput told (Err _) = ⊥
 abbrev pub CountsReadFault : {T : Type 0} → ℕ → ℕ → Result T Answer → Type 0
 CountsReadFault old new (Err ReadFault) = Rose old new
 CountsReadFault old new _ = new ≡ old
+
+-- but for ReadFault, no read failed: the counts of the files and of the input are as before
+abbrev pub ReadsWithoutFault : (files files' input input' : ℕ) → Answer → Type 0
+ReadsWithoutFault files files' input input' answer = (answer ≡ ReadFault → ⊥) → (files' ≡ files) × (input' ≡ input)

@@ -5,6 +5,7 @@ ghost use Rattle.elf32_loader.specs.LoadedImage.{image_of_loaded};
 ghost use Rattle.program_words.specs.declared.request.Task.TheVariants.{Alone};
 ghost use Rattle.track_board.specs.Value.{IsSettings};
 ghost use Rattle.fasttrack_program.specs.Plan.{Runs, options_of};
+ghost use Rattle.fasttrack_program.specs.Reading.{ReadsWithoutFault};
 ghost use Rattle.fasttrack_program.specs.Serving.{IsDone, IsServedWith, asked};
 ghost use Rattle.fasttrack_program.specs.TopCall.{IsRefusedEarly, ReadFails, Serves, is_bench, settings_of};
 
@@ -98,6 +99,7 @@ pub fn serve_request<F: Files, I: Source, O: Sink, N: Sink>(
         result }
     ensures read_fault { result.answer ≡ Answer.ReadFault
         → ReadFails (Some (asked request.now)) (F.contents files.old request.now.image.now) (F.faults files.old) (F.faults files.new) I.faults input.old input.new }
+    ensures counted { ReadsWithoutFault (F.faults files.old) (F.faults files.new) (I.faults input.old) (I.faults input.new) result.answer }
     ensures unread { request.now.no_input ≡ true → input.new ≡ input.old }
     ensures early { IsRefusedEarly result.answer → input.new ≡ input.old }
     ensures bench { is_bench request.now.task ≡ true → (files.new ≡ files.old) × (input.new ≡ input.old) }

@@ -2,6 +2,7 @@
 
 ghost use Rattle.std.specs.Prelude.{◌≡◌, ◌<◌, ◌⊎◌, true, false, None, Some, IfSome, IfNone, IsSome, map, string_bytes, vec_len, vec_capacity};
 ghost use Rattle.program_words.specs.CommandLine.{request_of};
+ghost use Rattle.fasttrack_program.specs.Reading.{ReadsWithoutFault};
 ghost use Rattle.fasttrack_program.specs.Serving.{IsServedWith, asked};
 ghost use Rattle.fasttrack_program.specs.TopCall.{IsAnswered, IsRefusedEarly, ReadFails, is_bench, needs_workers, told_of};
 
@@ -53,6 +54,9 @@ pub fn plain_main<F: Files, I: Source, O: Sink, N: Sink>(
     ensures read_fault { let request = request_of (map string_bytes words.now) in
         IfSome result (λ answer. answer ≡ Answer.ReadFault
         → ReadFails request (told_of (F.contents files.old) request) (F.faults files.old) (F.faults files.new) I.faults input.old input.new) }
+
+    // A failed read ends the call: where the answer is another, no count of reads rose.
+    ensures counted { IfSome result (ReadsWithoutFault (F.faults files.old) (F.faults files.new) (I.faults input.old) (I.faults input.new)) }
     ensures unread { IfSome (request_of (map string_bytes words.now)) (λ r. r.no_input ≡ true → input.new ≡ input.old) }
     ensures early { IfSome result (λ answer. IsRefusedEarly answer → input.new ≡ input.old) }
     ensures bench { IfSome (request_of (map string_bytes words.now)) (λ r. is_bench r.task ≡ true → (files.new ≡ files.old) × (input.new ≡ input.old)) }
@@ -95,6 +99,7 @@ fn serve_words<F: Files, I: Source, O: Sink, N: Sink>(
     ensures read_fault { let request = request_of (map string_bytes words.now) in
         IfSome result (λ served. served.answer ≡ Answer.ReadFault
         → ReadFails request (told_of (F.contents files.old) request) (F.faults files.old) (F.faults files.new) I.faults input.old input.new) }
+    ensures counted { IfSome result (λ served. ReadsWithoutFault (F.faults files.old) (F.faults files.new) (I.faults input.old) (I.faults input.new) served.answer) }
     ensures unread { IfSome (request_of (map string_bytes words.now)) (λ r. r.no_input ≡ true → input.new ≡ input.old) }
     ensures early { IfSome result (λ served. IsRefusedEarly served.answer → input.new ≡ input.old) }
     ensures bench { IfSome (request_of (map string_bytes words.now)) (λ r. is_bench r.task ≡ true → (files.new ≡ files.old) × (input.new ≡ input.old)) }

@@ -8,7 +8,7 @@ use Rattle.program_words.specs.declared.request.Task.TheVariants.{Bench}
 use Rattle.fasttrack_program.specs.Plan.{Runs, bench_plan, options_of}
 use Rattle.fasttrack_program.specs.Serving.{IsDone, IsServedWith, asked}
 use Rattle.fasttrack_program.specs.TopCall.{is_bench}
-use Rattle.fasttrack_program.proofs.OnPlans.{no_bench, served-image, served-input, served-no_input, served-runs, served-bench, late-input, late-runs, counted-read}
+use Rattle.fasttrack_program.proofs.OnPlans.{no_bench, served-image, served-input, served-no_input, served-runs, served-bench, late-input, late-runs, counted-read, calm-read}
 use Rattle.fasttrack_program.proofs.serve.serve_request.Goals as goal
 
 pub returns-in-Bench-clause-served : goal.returns-in-Bench-clause-served
@@ -29,6 +29,9 @@ returns-in-Err-clause-served g c =
 pub returns-in-Err-clause-read_fault : goal.returns-in-Err-clause-read_fault
 returns-in-Err-clause-read_fault g c = λ h.
     (no_bench c.args.request.now.task c.in_default.not-Bench, inl (counted-read Loaded _ _ c.in-Err.answer c.plain.result c.in-Err.ensures.counted c.plain.ensures h, refl))
+
+pub returns-in-Err-clause-counted : goal.returns-in-Err-clause-counted
+returns-in-Err-clause-counted g c = λ h. (calm-read Loaded _ _ c.in-Err.answer c.plain.result c.in-Err.ensures.counted c.plain.ensures h, refl)
 
 pub returns-then-request-clause-served : goal.returns-then-request-clause-served
 returns-then-request-clause-served g c =
@@ -78,6 +81,9 @@ returns-clause-read_fault g c = λ h. (
     loads = c.in-Ok.ensures.reads.2;
   }),
 )
+
+pub returns-clause-counted : goal.returns-clause-counted
+returns-clause-counted g c = λ h. (c.in-Ok.ensures.counted, calm-read Bytes _ _ c.in-Err-read_input.answer c.plain-in-Err-read_input.result c.in-Err-read_input.ensures.counted c.plain-in-Err-read_input.ensures h)
 
 pub returns-clause-early : goal.returns-clause-early
 returns-clause-early g c = λ h. absurd (late-input (g.I.Source.remaining c.args.input.now) c.in-Err-read_input.answer c.plain-in-Err-read_input.result c.in-Err-read_input.ensures.reads c.plain-in-Err-read_input.ensures h)

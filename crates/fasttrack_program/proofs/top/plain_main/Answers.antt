@@ -1,7 +1,7 @@
 use Rattle.std.proofs.Common.{ap, ◌∙◌}
 use Rattle.guest_streams.specs.GuestStreams.{Sinks}
 use Rattle.fasttrack_program.specs.Serving.{with_history}
-use Rattle.fasttrack_program.proofs.OnHistories.{read_fault-served}
+use Rattle.fasttrack_program.proofs.OnHistories.{read_fault-served, read_fault-told}
 use Rattle.fasttrack_program.proofs.OnPlans.{answered}
 use Rattle.fasttrack_program.proofs.top.plain_main.Goals as goal
 
@@ -16,3 +16,6 @@ returns-clause-answered g c =
 
 pub returns-clause-read_fault : goal.returns-clause-read_fault
 returns-clause-read_fault g c = λ h. c.in_ok-answer.ensures.read_fault (read_fault-served _ _ _ _ c.in_ok-answer.field-0.answer c.conclude-answer.result c.conclude-answer.ensures h)
+
+pub returns-clause-counted : goal.returns-clause-counted
+returns-clause-counted g c = λ other. c.in_ok-answer.ensures.counted (λ e. other (read_fault-told _ _ _ _ c.in_ok-answer.field-0.answer c.conclude-answer.result c.conclude-answer.ensures e))
