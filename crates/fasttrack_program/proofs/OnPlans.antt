@@ -1,6 +1,6 @@
 -- From what was read and run to the plan of the call
-use Rattle.std.proofs.Common.{◌≡◌, ℕ, ◌<◌, true, false, List, [], length, Option, Some, None, IfSome, Result, Ok, Err, inl, inr, refl, sym, ap, ◌∙◌, subst, append-nil, arith}
-use Rattle.std.specs.Prelude.{nat_lt}
+use Rattle.std.proofs.Common.{◌≡◌, ℕ, ◌<◌, ◌≤◌, Bool, true, false, List, [], length, Option, Some, None, IfSome, Result, Ok, Err, inl, inr, refl, sym, ap, ◌∙◌, subst, append-nil, arith}
+use Rattle.std.specs.Prelude.{nat_lt, if◌then◌else◌}
 use Rattle.std.proofs.lemmas.Bool.{lt-ltb}
 use Rattle.std.proofs.lemmas.Bool.Decides.{nat_tests}
 use Rattle.speculation.specs.declared.history.Entry.{Entry}
@@ -8,7 +8,7 @@ use Rattle.host_io.specs.Faults.{Rose}
 use Rattle.elf32_loader.specs.LoadedImage.{image_of_loaded}
 use Rattle.elf32_loader.specs.declared.loaded.Loaded.{Loaded}
 use Rattle.basic_types.specs.declared.bytes.Bytes.{Bytes}
-use Rattle.guest_model.specs.Image.{Image, program_alone}
+use Rattle.guest_model.specs.Image.{Image, image, program_alone}
 use Rattle.guest_model.specs.declared.end.End.{End}
 use Rattle.guest_model.specs.declared.end.End.TheVariants as E
 use Rattle.guest_streams.specs.GuestStreams.{Sinks, GetsAll, end_of}
@@ -17,7 +17,7 @@ use Rattle.program_words.specs.declared.request.Task.{Task}
 use Rattle.program_words.specs.declared.request.Task.TheVariants.{Alone, Run, Trial, Bench}
 use Rattle.fasttrack_program.specs.declared.options.Options.{Options}
 use Rattle.fasttrack_program.specs.declared.served.Served.{Served}
-use Rattle.fasttrack_program.specs.Plan.{Plan, Refusal, Refused, Runs, LongImage, BadFile, LongInput, options_of, image_in, input_limit, with_image, with_input, bench_plan, plan_of, plan}
+use Rattle.fasttrack_program.specs.Plan.{Plan, Refusal, Refused, Runs, LongImage, BadFile, LongInput, options_of, image_in, image_limit, input_limit, with_image, with_input, with_bench, bench_plan, plan_of, plan}
 use Rattle.fasttrack_program.specs.Reading.{IsTold, ReadsImage, ReadsInput, CountsReadFault}
 use Rattle.fasttrack_program.specs.AnswerLine.{HasNumbers, IsSaidFor, Concludes}
 use Rattle.fasttrack_program.specs.Serving.{answer_of, plainly, completes, with_history, IsDone, IsServedWith}
@@ -25,6 +25,7 @@ use Rattle.fasttrack_program.specs.TopCall.{task_output, EndsAsGuest, StaysWithi
 use Rattle.fasttrack_program.specs.declared.answer.Answer.{Answer}
 use Rattle.fasttrack_program.specs.declared.answer.Answer.TheVariants.{Exited, Trapped, Spent, Shown, Usage, ReadFault, ImageTooLong, BadImage, InputTooLong, WriteFault, NoMemory}
 use Rattle.guest_streams.proofs.OnStreams.{Gets-nothing, IsCalm-refl}
+use Rattle.fasttrack_program.proofs.OnBenches.{bench-loads}
 use Rattle.fasttrack_program.proofs.OnHistories.{history_of, handed-nothing, added}
 
 -- what holds of every value holds of the one that may be there
@@ -99,6 +100,30 @@ reads_image_by (Bench number) r file input h = absurd (cc)
 
 reads_image : (r : Request) (file input : List ℕ) (found : Result Image Refusal) → is_bench r.task ≡ false → image_in file ≡ found → plan (Some r) file input ≡ with_image r input found
 reads_image r file input found h e = reads_image_by r.task r file input h ∙ ap (with_image r input) e
+
+-- ---- calls that are done
+
+whole_file : (file : List ℕ) (i : Image) → length file ≤ image_limit → image file ≡ Ok i → image_in file ≡ Ok i
+whole_file file i h e =
+    let short : nat_lt image_limit (length file) ≡ false = grind (arith, nat_tests) in
+    rw (short, e) refl
+
+given_input : (i : Image) (r : Request) (input : List ℕ) (unread : Bool) → r.no_input ≡ unread → (unread ≡ false → length input ≤ input_limit) → with_input i r input ≡ Runs r.task i (if unread then [] else input) (options_of r)
+given_input i r input true e h = rw e refl
+given_input i r input false e h =
+    let short : nat_lt input_limit (length input) ≡ false = (let few = h refl in grind (arith, nat_tests)) in
+    rw (e, short) refl
+
+pub good-runs : (r : Request) (file input : List ℕ) (i : Image) → is_bench r.task ≡ false → length file ≤ image_limit → image file ≡ Ok i → (r.no_input ≡ false → length input ≤ input_limit)
+    → plan (Some r) file input ≡ Runs r.task i (if r.no_input then [] else input) (options_of r)
+good-runs r file input i reads short good few = reads_image r file input (Ok i) reads (whole_file file i short good) ∙ given_input i r input r.no_input refl few
+
+pub bench-runs : (r : Request) (file input : List ℕ) (number : ℕ) → r.task ≡ Bench number → (i : Image) × (plan (Some r) file input ≡ Runs (Bench number) i [] (options_of r))
+bench-runs r file input number e =
+    let loads = bench-loads number in
+    (loads.0, ap (λ task. plan_of task r file input) e ∙ ap (with_bench number (options_of r)) loads.1)
+
+-- ---- what was read
 
 module _ (r : Request) (told_file told_input : Option (List ℕ)) (reads : is_bench r.task ≡ false) where
   -- the image was refused

@@ -1,7 +1,9 @@
 //! The top call: words, image, input, run, and the answer's line, in this order.
 
 ghost use Rattle.std.specs.Prelude.{◌≡◌, ◌<◌, ◌⊎◌, true, false, None, Some, IfSome, IfNone, IsSome, map, string_bytes, vec_len, vec_capacity};
+ghost use Rattle.guest_streams.specs.GuestStreams.{Sinks};
 ghost use Rattle.program_words.specs.CommandLine.{request_of};
+ghost use Rattle.fasttrack_program.specs.Completeness.{NothingFailed, IsComplete};
 ghost use Rattle.fasttrack_program.specs.Reading.{ReadsWithoutFault};
 ghost use Rattle.fasttrack_program.specs.Serving.{IsServedWith, asked};
 ghost use Rattle.fasttrack_program.specs.TopCall.{IsAnswered, IsRefusedEarly, ReadFails, is_bench, needs_workers, told_of};
@@ -43,6 +45,15 @@ pub fn plain_main<F: Files, I: Source, O: Sink, N: Sink>(
         (record { out = O.contents out.old; out_faults = O.faults out.old; notes = N.contents notes.old; notes_faults = N.faults notes.old })
         (record { out = O.contents out.new; out_faults = O.faults out.new; notes = N.contents notes.new; notes_faults = N.faults notes.new })
         told.old told.new answer) }
+
+    // Where no count rose, the answer and the output are what the words, the image and the input ask for, or memory ran
+    // out: for words that are accepted, an image without a fault and an input within its limit the program's own end with
+    // all of its output, or Shown with the whole report (`laws::good_calls_run`).
+    ensures complete { let request = request_of (map string_bytes words.now) in
+        let before : Sinks = record { out = O.contents out.old; out_faults = O.faults out.old; notes = N.contents notes.old; notes_faults = N.faults notes.old } in
+        let after : Sinks = record { out = O.contents out.new; out_faults = O.faults out.new; notes = N.contents notes.new; notes_faults = N.faults notes.new } in
+        IfSome result (λ answer. NothingFailed (F.faults files.old) (F.faults files.new) (I.faults input.old) (I.faults input.new) before after
+        → IsComplete request (told_of (F.contents files.old) request) (I.remaining input.old) before after answer) }
 
     // Workers are asked for exactly where there is no answer, unless memory ran out before the words were read.
     ensures none { IfNone result ((needs_workers (request_of (map string_bytes words.now)) ≡ true)

@@ -1,0 +1,161 @@
+-- Where no count rose, a call did all that its plan says
+use Rattle.std.proofs.Common.{◌≡◌, ℕ, List, [], ◌++◌, Option, Some, None, ◌⊎◌, inl, inr, refl, sym, ap, ◌∙◌, subst, append-nil, arith}
+use Rattle.std.specs.Prelude.{unwrap_or}
+use Rattle.std.specs.Io.KnownBytes.{Appends}
+use Rattle.speculation.specs.declared.history.Entry.{Entry}
+use Rattle.speculation.specs.Run.{Mark, marked}
+use Rattle.host_io.specs.Faults.{Rose, StayedCalm}
+use Rattle.elf32_loader.specs.declared.fault.ImageFault.{ImageFault}
+use Rattle.guest_model.specs.Image.{Image, program_alone}
+use Rattle.guest_model.specs.declared.end.End.{End}
+use Rattle.guest_model.specs.declared.end.End.TheVariants as E
+use Rattle.guest_streams.specs.GuestStreams.{Sinks, Gets, GetsAll, FailsAt, end_of}
+use Rattle.program_words.specs.CommandLine.{Request}
+use Rattle.program_words.specs.declared.request.Task.{Task}
+use Rattle.program_words.specs.declared.request.Task.TheVariants.{Alone, Run, Trial, Bench}
+use Rattle.fasttrack_program.specs.declared.options.Options.{Options}
+use Rattle.fasttrack_program.specs.declared.answer.Answer.{Answer}
+use Rattle.fasttrack_program.specs.declared.answer.Answer.TheVariants.{Exited, Trapped, Spent, Shown, Usage, ReadFault, ImageTooLong, BadImage, InputTooLong, WriteFault, NoMemory}
+use Rattle.fasttrack_program.specs.AnswerLine.{line_of, unless_told, Tells}
+use Rattle.fasttrack_program.specs.Completeness.{whole_answer, line_text, IsDoneWhole, DoesPlan, IsComplete}
+use Rattle.fasttrack_program.specs.Plan.{Plan, Refusal, Refused, Runs, BadWords, LongImage, BadFile, LongInput, plan}
+use Rattle.fasttrack_program.specs.Serving.{answer_of}
+use Rattle.fasttrack_program.specs.TopCall.{task_output, EndsAsGuest, EndsWithReport, HasFault, Serves, ReadFails, IsAnswered}
+use Rattle.fasttrack_program.proofs.OnRuns.{noted, behind_all}
+
+-- a count that rose is not as before
+calm-not_risen : (a b : ℕ) → StayedCalm a b → Rose a b → ⊥
+calm-not_risen a b h rose = absurd (omega (arith, h.0, h.1, rose))
+
+-- nor where it rose before its last value, or after
+calm-not_between : (a b c : ℕ) → StayedCalm a c → Rose a b → (c ≡ b) ⊎ Rose b c → ⊥
+calm-not_between a b c h rose (inl e) = absurd (omega (arith, h.0, h.1, rose, e))
+calm-not_between a b c h rose (inr more) = absurd (omega (arith, h.0, h.1, rose, more))
+
+-- what became of the count while a line was told
+told-count : (mid new : Option (List ℕ)) (faults faults' : ℕ) (said result : Answer) (line : Option (List ℕ)) → Tells mid new faults faults' said result line → (faults' ≡ faults) ⊎ Rose faults faults'
+told-count mid new faults faults' said result None h = inl h.1
+told-count mid new faults faults' said result (Some line) (inl h) = inl h.1
+told-count mid new faults faults' said result (Some line) (inr h) = inr h.3
+
+-- the result of an answer that a lost line leaves as it is
+told-result : (mid new : Option (List ℕ)) (faults faults' : ℕ) (said result : Answer) (line : Option (List ℕ)) → unless_told said ≡ said → Tells mid new faults faults' said result line → result ≡ said
+told-result mid new faults faults' said result None same h = h.2
+told-result mid new faults faults' said result (Some line) same (inl h) = h.2
+told-result mid new faults faults' said result (Some line) same (inr h) = h.4 ∙ same
+
+Appends-nothing : (told : Option (List ℕ)) → Appends told told []
+Appends-nothing None = tt
+Appends-nothing (Some bs) = sym (append-nil bs)
+
+-- the line was told whole
+record Told (mid new : Option (List ℕ)) (faults faults' : ℕ) (said result : Answer) (text : List ℕ) : Type 0 where
+  pub appends : Appends mid new text
+  pub calm : faults' ≡ faults
+  pub same : result ≡ said
+
+told-whole : (start : ℕ) (mid new : Option (List ℕ)) (faults faults' : ℕ) (said result : Answer) (line : Option (List ℕ)) → StayedCalm start faults' → faults ≡ start → Tells mid new faults faults' said result line
+    → Told mid new faults faults' said result (unwrap_or line [])
+told-whole start mid new faults faults' said result None calm same h = record { appends = subst (λ o. Appends mid o []) (sym h.0) (Appends-nothing mid); calm = h.1; same = h.2 }
+told-whole start mid new faults faults' said result (Some line) calm same (inl h) = record { appends = h.0; calm = h.1; same = h.2 }
+told-whole start mid new faults faults' said result (Some line) calm same (inr h) = absurd (calm-not_risen start faults' calm (subst (λ n. Rose n faults') same h.3))
+
+-- a task that was done whole
+module _ (task : Task) (i : Image) (input : List ℕ) (o : Options) (entries : List Entry) (old mid new : Sinks) (said result : Answer) where
+  done-whole : new.out ≡ mid.out → new.out_faults ≡ mid.out_faults → StayedCalm old.notes_faults new.notes_faults → GetsAll old mid (task_output task i input o entries)
+      → Tells mid.notes new.notes mid.notes_faults new.notes_faults said result (line_of said) → said ≡ whole_answer task i input o → IsDoneWhole task i input o entries old new result
+  done-whole out out_faults calm got tells is =
+      let told = told-whole old.notes_faults mid.notes new.notes mid.notes_faults new.notes_faults said result (line_of said) calm got.calm.on_notes tells in
+      let all = behind_all old mid new.notes new.notes_faults (task_output task i input o entries) (line_text said) got (told.appends, told.calm) in
+      let sinks : noted mid new.notes new.notes_faults ≡ new = ap (λ x. record new { out = x; out_faults = mid.out_faults }) (sym out) ∙ ap (λ n. record new { out_faults = n }) (sym out_faults) in
+      (
+        told.same ∙ is,
+        subst (λ a. Gets old new (task_output task i input o entries ++ marked 2 (line_text a))) (sym told.same)
+            (subst (λ s. Gets old s (task_output task i input o entries ++ marked 2 (line_text said))) sinks all.gets),
+      )
+
+  -- a sink failed
+  not-failed : new.out_faults ≡ mid.out_faults → StayedCalm old.out_faults new.out_faults → StayedCalm old.notes_faults new.notes_faults
+      → Tells mid.notes new.notes mid.notes_faults new.notes_faults said result (line_of said) → (rest : List Mark) → FailsAt old mid rest → ⊥
+  not-failed out_faults out notes tells rest (inl h) = calm-not_risen old.out_faults mid.out_faults (subst (StayedCalm old.out_faults) out_faults out) h.0
+  not-failed out_faults out notes tells rest (inr h) =
+      calm-not_between old.notes_faults mid.notes_faults new.notes_faults notes h.0 (told-count mid.notes new.notes mid.notes_faults new.notes_faults said result (line_of said) tells)
+
+whole-end : (task : Task) (i : Image) (input : List ℕ) (o : Options) (e : End) → EndsAsGuest task → e ≡ end_of (program_alone i input o.budget).end → answer_of e ≡ whole_answer task i input o
+whole-end Alone i input o e ends is = ap answer_of is
+whole-end Run i input o e ends is = ap answer_of is
+whole-end Trial i input o e ends is = absurd ends
+whole-end (Bench number) i input o e ends is = absurd ends
+
+whole-report : (task : Task) (i : Image) (input : List ℕ) (o : Options) → EndsWithReport task → Shown ≡ whole_answer task i input o
+whole-report Alone i input o ends = absurd ends
+whole-report Run i input o ends = absurd ends
+whole-report Trial i input o ends = refl
+whole-report (Bench number) i input o ends = refl
+
+module _ (entries : List Entry) (old mid new : Sinks) (result : Answer) (out : new.out ≡ mid.out) (out_faults : new.out_faults ≡ mid.out_faults)
+    (out_calm : StayedCalm old.out_faults new.out_faults) (notes_calm : StayedCalm old.notes_faults new.notes_faults) (read : result ≡ ReadFault → ⊥) where
+  -- the answer of a refusal, of a fault or of want of memory stands
+  stands : (said : Answer) → unless_told said ≡ said → Tells mid.notes new.notes mid.notes_faults new.notes_faults said result (line_of said) → result ≡ said
+  stands said same tells = told-result mid.notes new.notes mid.notes_faults new.notes_faults said result (line_of said) same tells
+
+  refused : (p : Plan) (said : Answer) → unless_told said ≡ said → Tells mid.notes new.notes mid.notes_faults new.notes_faults said result (line_of said) → DoesPlan p entries old new said → DoesPlan p entries old new result
+  refused p said same tells h = subst (DoesPlan p entries old new) (sym (stands said same tells)) h
+
+  ran-by : (task : Task) (i : Image) (input : List ℕ) (o : Options) (said : Answer) → Serves (Runs task i input o) entries old mid said → Tells mid.notes new.notes mid.notes_faults new.notes_faults said result (line_of said)
+      → (result ≡ NoMemory) ⊎ IsDoneWhole task i input o entries old new result
+  ran-by task i input o (Exited code) h tells = inr (done-whole task i input o entries old mid new (Exited code) result out out_faults notes_calm h.1 tells (whole-end task i input o (E.Exit code) h.0 h.2))
+  ran-by task i input o (Trapped trap pc) h tells = inr (done-whole task i input o entries old mid new (Trapped trap pc) result out out_faults notes_calm h.1 tells (whole-end task i input o (E.Trap trap pc) h.0 h.2))
+  ran-by task i input o Spent h tells = inr (done-whole task i input o entries old mid new Spent result out out_faults notes_calm h.1 tells (whole-end task i input o E.Spent h.0 h.2))
+  ran-by task i input o Shown h tells = inr (done-whole task i input o entries old mid new Shown result out out_faults notes_calm h.1 tells (whole-report task i input o h.0))
+  ran-by task i input o Usage h tells = (let is = h.0 in absurd (cc))
+  ran-by task i input o ReadFault h tells = absurd (read (stands ReadFault refl tells))
+  ran-by task i input o ImageTooLong h tells = (let is = h.0 in absurd (cc))
+  ran-by task i input o (BadImage f) h tells = absurd h.0
+  ran-by task i input o InputTooLong h tells = (let is = h.0 in absurd (cc))
+  ran-by task i input o WriteFault h tells = absurd (not-failed task i input o entries old mid new WriteFault result out_faults out_calm notes_calm tells h.rest h.fails)
+  ran-by task i input o NoMemory h tells = inl (stands NoMemory refl tells)
+
+  refused-file : (p : Plan) (f : ImageFault) → HasFault p f → DoesPlan p entries old new (BadImage f)
+  refused-file (Refused (BadFile k)) f h = (f, h, refl)
+  refused-file (Refused BadWords) f h = absurd h
+  refused-file (Refused LongImage) f h = absurd h
+  refused-file (Refused LongInput) f h = absurd h
+  refused-file (Runs task i input o) f h = absurd h
+
+  refused-by : (r : Refusal) (said : Answer) → Serves (Refused r) entries old mid said → Tells mid.notes new.notes mid.notes_faults new.notes_faults said result (line_of said)
+      → (result ≡ NoMemory) ⊎ DoesPlan (Refused r) entries old new result
+  refused-by r Usage h tells = inr (refused (Refused r) Usage refl tells (subst (λ p. DoesPlan p entries old new Usage) (sym h.0) refl))
+  refused-by r ImageTooLong h tells = inr (refused (Refused r) ImageTooLong refl tells (subst (λ p. DoesPlan p entries old new ImageTooLong) (sym h.0) refl))
+  refused-by r (BadImage f) h tells = inr (refused (Refused r) (BadImage f) refl tells (refused-file (Refused r) f h.0))
+  refused-by r InputTooLong h tells = inr (refused (Refused r) InputTooLong refl tells (subst (λ p. DoesPlan p entries old new InputTooLong) (sym h.0) refl))
+  refused-by r ReadFault h tells = absurd (read (stands ReadFault refl tells))
+  refused-by r NoMemory h tells = inl (stands NoMemory refl tells)
+  refused-by r (Exited code) h tells = absurd h
+  refused-by r (Trapped trap pc) h tells = absurd h
+  refused-by r Spent h tells = absurd h
+  refused-by r Shown h tells = absurd h
+  refused-by r WriteFault h tells = absurd h
+
+  planned : (p : Plan) (said : Answer) → Serves p entries old mid said → Tells mid.notes new.notes mid.notes_faults new.notes_faults said result (line_of said)
+      → (result ≡ NoMemory) ⊎ DoesPlan p entries old new result
+  planned (Refused r) said h tells = refused-by r said h tells
+  planned (Runs task i input o) said h tells = ran-by task i input o said h tells
+
+or-else : {A B C : Type 0} → (B → C) → A ⊎ B → A ⊎ C
+or-else f (inl a) = inl a
+or-else f (inr b) = inr (f b)
+
+-- a call in which nothing failed
+pub completed : (request : Option Request) (told_file told_input : Option (List ℕ)) (old new : Sinks) (histories histories' : List (List Entry)) (result : Answer)
+    → IsAnswered request told_file told_input old new histories histories' result → StayedCalm old.out_faults new.out_faults → StayedCalm old.notes_faults new.notes_faults → (result ≡ ReadFault → ⊥)
+    → IsComplete request told_file told_input old new result
+completed request told_file told_input old new histories histories' result h out notes read =
+    or-else (λ does. record { file = h.served.file; input = h.served.input; entries = h.entries; file_told = h.served.file_told; input_told = h.served.input_told; history = h.served.history; done = does })
+    (planned h.entries old h.between new result h.out h.out_faults out notes read (plan request h.served.file h.served.input) h.said h.served.serves h.tells)
+
+-- a read that failed was counted
+pub read-failed : {I : Type 0} (request : Option Request) (told_file : Option (List ℕ)) (files files' : ℕ) (faults : I → ℕ) (input input' : I)
+    → StayedCalm files files' → StayedCalm (faults input) (faults input') → ReadFails request told_file files files' faults input input' → ⊥
+read-failed request told_file files files' faults input input' calm calm' (reads, inl h) = calm-not_risen files files' calm h.0
+read-failed request told_file files files' faults input input' calm calm' (reads, inr h) = calm-not_risen (faults input) (faults input') calm' h.rose
