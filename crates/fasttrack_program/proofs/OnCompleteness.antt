@@ -67,8 +67,7 @@ module _ (task : Task) (i : Image) (input : List ℕ) (o : Options) (entries : L
   done-whole out out_faults calm got tells is =
       let told = told-whole old.notes_faults mid.notes new.notes mid.notes_faults new.notes_faults said result (line_of said) calm got.calm.on_notes tells in
       let all = behind_all old mid new.notes new.notes_faults (task_output task i input o entries) (line_text said) got (told.appends, told.calm) in
-      let sinks : noted mid new.notes new.notes_faults ≡ new = ap (λ x. record new { out = x; out_faults = mid.out_faults }) (sym out) ∙ ap (λ n. record new { out_faults = n }) (sym out_faults) in
-      (
+      let sinks : noted mid new.notes new.notes_faults ≡ new = ap (λ x. record new { out = x; out_faults = mid.out_faults }) (sym out) ∙ ap (λ n. record new { out_faults = n }) (sym out_faults) in (
         told.same ∙ is,
         subst (λ a. Gets old new (task_output task i input o entries ++ marked 2 (line_text a))) (sym told.same)
             (subst (λ s. Gets old s (task_output task i input o entries ++ marked 2 (line_text said))) sinks all.gets),

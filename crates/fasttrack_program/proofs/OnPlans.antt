@@ -26,7 +26,7 @@ use Rattle.fasttrack_program.specs.declared.answer.Answer.{Answer}
 use Rattle.fasttrack_program.specs.declared.answer.Answer.TheVariants.{Exited, Trapped, Spent, Shown, Usage, ReadFault, ImageTooLong, BadImage, InputTooLong, WriteFault, NoMemory}
 use Rattle.guest_streams.proofs.OnStreams.{Gets-nothing, IsCalm-refl}
 use Rattle.fasttrack_program.proofs.OnBenches.{bench-loads}
-use Rattle.fasttrack_program.proofs.OnHistories.{history_of, handed-nothing, added}
+use Rattle.fasttrack_program.proofs.OnHistories.{AllowsRegion, history_of, handed-nothing, added}
 
 -- what holds of every value holds of the one that may be there
 pub of_any : {A : Type 0} (o : Option A) (P : A → Type 0) → ((x : A) → P x) → IfSome o P
@@ -55,10 +55,10 @@ StaysWithin-refl (Runs task i input o) entries s = record {
 }
 
 -- a call that was served before the guest ran, for some file and some input
-module _ (r : Option Request) (told_file told_input : Option (List ℕ)) (s : Sinks) (a : Answer) (lacks : completes a ≡ false) where
+module _ (r : Option Request) (some : AllowsRegion r) (told_file told_input : Option (List ℕ)) (s : Sinks) (a : Answer) (lacks : completes a ≡ false) where
   pub served-early : (file input : List ℕ) → IsTold told_file file → IsTold told_input input → ((entries : List Entry) → Serves (plan r file input) entries s s a) → IsServedWith r told_file told_input s s (plainly a)
   served-early file input f i serves =
-      let history = history_of r file input in
+      let history = history_of r file input some in
       record {
         entries = history.0;
         served = record { file = file; input = input; file_told = f; input_told = i; history = history.1; serves = serves history.0 };
@@ -74,14 +74,14 @@ module _ (r : Option Request) (told_file told_input : Option (List ℕ)) (s : Si
 -- the words ask for nothing
 pub served-usage : (told_file told_input : Option (List ℕ)) (s : Sinks) → IsServedWith None told_file told_input s s (plainly Usage)
 served-usage told_file told_input s =
-    served-early None told_file told_input s Usage refl (told_bytes told_file) (told_bytes told_input) (told_are told_file) (told_are told_input) (λ entries. (refl, refl))
+    served-early None tt told_file told_input s Usage refl (told_bytes told_file) (told_bytes told_input) (told_are told_file) (told_are told_input) (λ entries. (refl, refl))
 
 -- there was no memory before anything was written
-pub served-no_memory : (r : Option Request) (told_file told_input : Option (List ℕ)) (s : Sinks) → IsServedWith r told_file told_input s s (plainly NoMemory)
-served-no_memory r told_file told_input s = served-anyhow r told_file told_input s NoMemory refl (λ p entries. StaysWithin-refl p entries s)
+pub served-no_memory : (r : Option Request) → AllowsRegion r → (told_file told_input : Option (List ℕ)) (s : Sinks) → IsServedWith r told_file told_input s s (plainly NoMemory)
+served-no_memory r some told_file told_input s = served-anyhow r some told_file told_input s NoMemory refl (λ p entries. StaysWithin-refl p entries s)
 
-served-read_fault : (r : Option Request) (told_file told_input : Option (List ℕ)) (s : Sinks) → IsServedWith r told_file told_input s s (plainly ReadFault)
-served-read_fault r told_file told_input s = served-anyhow r told_file told_input s ReadFault refl (λ p entries. refl)
+served-read_fault : (r : Option Request) → AllowsRegion r → (told_file told_input : Option (List ℕ)) (s : Sinks) → IsServedWith r told_file told_input s s (plainly ReadFault)
+served-read_fault r some told_file told_input s = served-anyhow r some told_file told_input s ReadFault refl (λ p entries. refl)
 
 -- ---- the image and the input
 
@@ -125,17 +125,17 @@ bench-runs r file input number e =
 
 -- ---- what was read
 
-module _ (r : Request) (told_file told_input : Option (List ℕ)) (reads : is_bench r.task ≡ false) where
+module _ (r : Request) (some : 1 ≤ r.tracks) (told_file told_input : Option (List ℕ)) (reads : is_bench r.task ≡ false) where
   -- the image was refused
   pub served-image : (s : Sinks) (a : Answer) → ReadsImage told_file (Err a) → IsServedWith (Some r) told_file told_input s s (plainly a)
-  served-image s ReadFault h = served-read_fault (Some r) told_file told_input s
-  served-image s NoMemory h = served-no_memory (Some r) told_file told_input s
+  served-image s ReadFault h = served-read_fault (Some r) some told_file told_input s
+  served-image s NoMemory h = served-no_memory (Some r) some told_file told_input s
   served-image s ImageTooLong h =
-      served-early (Some r) told_file told_input s ImageTooLong refl h.0 (told_bytes told_input) h.1 (told_are told_input)
+      served-early (Some r) some told_file told_input s ImageTooLong refl h.0 (told_bytes told_input) h.1 (told_are told_input)
       (λ entries. (reads_image r h.0 (told_bytes told_input) (Err LongImage) reads h.2, refl))
   served-image s (BadImage f) h =
       let is = reads_image r h.0 (told_bytes told_input) (Err (BadFile h.1)) reads h.4 in
-      served-early (Some r) told_file told_input s (BadImage f) refl h.0 (told_bytes told_input) h.2 (told_are told_input)
+      served-early (Some r) some told_file told_input s (BadImage f) refl h.0 (told_bytes told_input) h.2 (told_are told_input)
       (λ entries. subst (λ p. Serves p entries s s (BadImage f)) (sym is) (h.3, refl))
   served-image s (Exited c) h = absurd h
   served-image s (Trapped t pc) h = absurd h
@@ -150,10 +150,10 @@ module _ (r : Request) (told_file told_input : Option (List ℕ)) (reads : is_be
 
   -- the input was refused
   pub served-input : (s : Sinks) (l : Loaded) (a : Answer) → r.no_input ≡ false → ReadsImage told_file (Ok l) → ReadsInput told_input (Err a) → IsServedWith (Some r) told_file told_input s s (plainly a)
-  served-input s l ReadFault n h k = served-read_fault (Some r) told_file told_input s
-  served-input s l NoMemory n h k = served-no_memory (Some r) told_file told_input s
+  served-input s l ReadFault n h k = served-read_fault (Some r) some told_file told_input s
+  served-input s l NoMemory n h k = served-no_memory (Some r) some told_file told_input s
   served-input s l InputTooLong n h k =
-      served-early (Some r) told_file told_input s InputTooLong refl h.0 k.0 h.1 k.1
+      served-early (Some r) some told_file told_input s InputTooLong refl h.0 k.0 h.1 k.1
       (λ entries. (reads_image r h.0 k.0 (Ok (image_of_loaded l)) reads h.2 ∙ long_input (image_of_loaded l) k.0 n k.2, refl))
   served-input s l (Exited c) n h k = absurd k
   served-input s l (Trapped t pc) n h k = absurd k

@@ -149,11 +149,11 @@ guest_of l input = start-is-guest input l.entry l.areas l.heap l.layout
 
 -- ---- a run
 
-module _ (l : Loaded) (input : List ℕ) (o : Options) (old : Sinks) where
+module _ (l : Loaded) (input : List ℕ) (o : Options) (some : 1 ≤ o.tracks) (old : Sinks) where
   -- a sink failed
   pub run-fails : (mid : Sinks) → StopsShort old mid (output_of (program_alone (image_of_loaded l) input o.budget)) → IsDone Run (Runs Run (image_of_loaded l) input o) old mid (plainly A.WriteFault)
   run-fails mid h =
-      let history = history_of_run input (image_of_loaded l) o (guest_of l input) in
+      let history = history_of_run input (image_of_loaded l) o some (guest_of l input) in
       record {
         entries = history.0;
         history = history.1;
@@ -164,7 +164,7 @@ module _ (l : Loaded) (input : List ℕ) (o : Options) (old : Sinks) where
   -- memory ran out
   pub run-breaks : (mid : Sinks) → GetsPart old mid (output_of (program_alone (image_of_loaded l) input o.budget)) → IsDone Run (Runs Run (image_of_loaded l) input o) old mid (plainly A.NoMemory)
   run-breaks mid h =
-      let history = history_of_run input (image_of_loaded l) o (guest_of l input) in
+      let history = history_of_run input (image_of_loaded l) o some (guest_of l input) in
       record {
         entries = history.0;
         history = history.1;
@@ -213,7 +213,7 @@ module _ (l : Loaded) (input : List ℕ) (o : Options) (entries : List Entry) (o
         let tells = tells-program in
         record {
           entries = outcome.entries;
-          history = λ some. serial-told;
+          history = serial-told;
           serves = serves-end Run (image_of_loaded l) input o outcome.entries old (noted mid told faults) f.end tt
               (behind_all old mid told faults (output_of (program_alone (image_of_loaded l) input o.budget)) texts got written) tells.end;
           handed = handed-run f.end outcome.entries;
@@ -226,7 +226,7 @@ module _ (l : Loaded) (input : List ℕ) (o : Options) (entries : List Entry) (o
         let texts = texts_behind (image_of_loaded l) input o outcome.entries in
         record {
           entries = outcome.entries;
-          history = λ some. serial-told;
+          history = serial-told;
           serves = behind_stops old mid told faults (output_of (program_alone (image_of_loaded l) input o.budget)) texts got
               (subst (λ text. WritesText {T = Unit {0}} mid.notes told mid.notes_faults faults text (Err Write)) texts-are w);
           handed = refl;
@@ -239,7 +239,7 @@ module _ (l : Loaded) (input : List ℕ) (o : Options) (entries : List Entry) (o
         let texts = texts_behind (image_of_loaded l) input o outcome.entries in
         record {
           entries = outcome.entries;
-          history = λ some. serial-told;
+          history = serial-told;
           serves = behind_within old mid told faults (output_of (program_alone (image_of_loaded l) input o.budget)) texts got
               (subst (λ text. WritesText {T = Unit {0}} mid.notes told mid.notes_faults faults text (Err NoMemory)) texts-are w);
           handed = refl;
@@ -267,8 +267,8 @@ module _ (l : Loaded) (input : List ℕ) (o : Options) (entries : List Entry) (o
         summary-is (image_of_loaded l) input o.budget outcome.rows f tells-program number (released_total outcome.entries) total-is
         ∙ ap (λ xs. bench_report number (image_of_loaded l) xs o.budget) none
 
-    bench-history : 1 ≤ o.tracks → IsSerial (rv32 []) (settings_of o) (start_of (image_of_loaded l)) outcome.entries
-    bench-history some = subst (λ xs. IsSerial (rv32 xs) (settings_of o) (start_of (image_of_loaded l)) outcome.entries) none serial-told
+    bench-history : IsSerial (rv32 []) (settings_of o) (start_of (image_of_loaded l)) outcome.entries
+    bench-history = subst (λ xs. IsSerial (rv32 xs) (settings_of o) (start_of (image_of_loaded l)) outcome.entries) none serial-told
 
     -- what is written on `out` of the summary
     done-bench : (old new : Sinks) (v : Served) → Serves (Runs (Bench number) (image_of_loaded l) [] o) outcome.entries old new v.answer → v.history ≡ handed (Bench number) v.answer outcome.entries
@@ -310,7 +310,7 @@ pub never-fails : (old new : Sinks) (output : List Mark) → old.out_faults ≡ 
 never-fails old new output a b c d h = no-faults old new h.rest a b c d h.fails
 
 -- there was no memory for a bench, or it did not come to its end
-pub bench-broken : (number : ℕ) (o : Options) (s : Sinks) → IsDone (Bench number) (bench_plan number o) s s (plainly A.NoMemory)
-bench-broken number o s =
-    let history = history_of_bench number o in
+pub bench-broken : (number : ℕ) (o : Options) → 1 ≤ o.tracks → (s : Sinks) → IsDone (Bench number) (bench_plan number o) s s (plainly A.NoMemory)
+bench-broken number o some s =
+    let history = history_of_bench number o some in
     record { entries = history.0; history = history.1; serves = StaysWithin-refl (bench_plan number o) history.0 s; handed = refl }

@@ -2,11 +2,12 @@
 
 ghost use Rattle.std.specs.Prelude.{◌≡◌, [], Some, true, false};
 ghost use Rattle.elf32_loader.specs.LoadedImage.{image_of_loaded};
+ghost use Rattle.program_words.specs.CommandLine.{asked};
 ghost use Rattle.program_words.specs.declared.request.Task.TheVariants.{Alone};
 ghost use Rattle.track_board.specs.Value.{IsSettings};
 ghost use Rattle.fasttrack_program.specs.Plan.{Runs, options_of};
 ghost use Rattle.fasttrack_program.specs.Reading.{ReadsWithoutFault};
-ghost use Rattle.fasttrack_program.specs.Serving.{IsDone, IsServedWith, asked};
+ghost use Rattle.fasttrack_program.specs.Serving.{IsDone, IsServedWith};
 ghost use Rattle.fasttrack_program.specs.TopCall.{IsRefusedEarly, ReadFails, Serves, is_bench, settings_of};
 
 use crate::alone::run_alone;

@@ -2,10 +2,10 @@
 
 ghost use Rattle.std.specs.Prelude.{◌≡◌, ◌<◌, ◌⊎◌, true, false, None, Some, IfSome, IfNone, IsSome, map, string_bytes, vec_len, vec_capacity};
 ghost use Rattle.guest_streams.specs.GuestStreams.{Sinks};
-ghost use Rattle.program_words.specs.CommandLine.{request_of};
+ghost use Rattle.program_words.specs.CommandLine.{asked, request_of};
 ghost use Rattle.fasttrack_program.specs.Completeness.{NothingFailed, IsComplete};
 ghost use Rattle.fasttrack_program.specs.Reading.{ReadsWithoutFault};
-ghost use Rattle.fasttrack_program.specs.Serving.{IsServedWith, asked};
+ghost use Rattle.fasttrack_program.specs.Serving.{IsServedWith};
 ghost use Rattle.fasttrack_program.specs.TopCall.{IsAnswered, IsRefusedEarly, ReadFails, is_bench, needs_workers, told_of};
 
 use crate::answer::Answer;

@@ -3,10 +3,10 @@ use Rattle.elf32_loader.specs.LoadedImage.{image_of_loaded}
 use Rattle.elf32_loader.specs.declared.loaded.Loaded.{Loaded}
 use Rattle.basic_types.specs.declared.bytes.Bytes.{Bytes}
 use Rattle.guest_streams.specs.GuestStreams.{Sinks}
-use Rattle.program_words.specs.CommandLine.{Request}
+use Rattle.program_words.specs.CommandLine.{Request, asked}
 use Rattle.program_words.specs.declared.request.Task.TheVariants.{Bench}
 use Rattle.fasttrack_program.specs.Plan.{Runs, bench_plan, options_of}
-use Rattle.fasttrack_program.specs.Serving.{IsDone, IsServedWith, asked}
+use Rattle.fasttrack_program.specs.Serving.{IsDone, IsServedWith}
 use Rattle.fasttrack_program.specs.TopCall.{is_bench}
 use Rattle.fasttrack_program.proofs.OnPlans.{no_bench, served-image, served-input, served-no_input, served-runs, served-bench, late-input, late-runs, counted-read, calm-read}
 use Rattle.fasttrack_program.proofs.serve.serve_request.Goals as goal
@@ -24,7 +24,7 @@ returns-in-Err-clause-served g c =
     let before : Sinks = record { out = g.O.Sink.contents c.args.out.now; out_faults = g.O.Sink.faults c.args.out.now; notes = g.N.Sink.contents c.args.notes.now; notes_faults = g.N.Sink.faults c.args.notes.now } in
     let reads : is_bench c.args.request.now.task ≡ false = no_bench c.args.request.now.task c.in_default.not-Bench in
     subst (IsServedWith (Some (asked c.args.request.now)) (g.F.Files.contents c.args.files.now c.args.request.now.image.now) (g.I.Source.remaining c.args.input.now) before before) (sym c.plain.ensures)
-    (served-image (asked c.args.request.now) (g.F.Files.contents c.args.files.now c.args.request.now.image.now) (g.I.Source.remaining c.args.input.now) reads before c.in-Err.answer c.in-Err.ensures.reads)
+    (served-image (asked c.args.request.now) c.requires.some (g.F.Files.contents c.args.files.now c.args.request.now.image.now) (g.I.Source.remaining c.args.input.now) reads before c.in-Err.answer c.in-Err.ensures.reads)
 
 pub returns-in-Err-clause-read_fault : goal.returns-in-Err-clause-read_fault
 returns-in-Err-clause-read_fault g c = λ h.
@@ -66,7 +66,7 @@ returns-clause-served g c =
     let before : Sinks = record { out = g.O.Sink.contents c.args.out.now; out_faults = g.O.Sink.faults c.args.out.now; notes = g.N.Sink.contents c.args.notes.now; notes_faults = g.N.Sink.faults c.args.notes.now } in
     let reads : is_bench c.args.request.now.task ≡ false = no_bench c.args.request.now.task c.in_default.not-Bench in
     subst (IsServedWith (Some (asked c.args.request.now)) (g.F.Files.contents c.args.files.now c.args.request.now.image.now) (g.I.Source.remaining c.args.input.now) before before) (sym c.plain-in-Err-read_input.ensures)
-    (served-input (asked c.args.request.now) (g.F.Files.contents c.args.files.now c.args.request.now.image.now) (g.I.Source.remaining c.args.input.now) reads before c.in-Ok.loaded c.in-Err-read_input.answer c.if-request.false c.in-Ok.ensures.reads c.in-Err-read_input.ensures.reads)
+    (served-input (asked c.args.request.now) c.requires.some (g.F.Files.contents c.args.files.now c.args.request.now.image.now) (g.I.Source.remaining c.args.input.now) reads before c.in-Ok.loaded c.in-Err-read_input.answer c.if-request.false c.in-Ok.ensures.reads c.in-Err-read_input.ensures.reads)
 
 pub returns-clause-read_fault : goal.returns-clause-read_fault
 returns-clause-read_fault g c = λ h. (

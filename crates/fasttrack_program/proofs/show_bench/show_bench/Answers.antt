@@ -13,12 +13,12 @@ use Rattle.fasttrack_program.proofs.show_bench.show_bench.Goals as goal
 pub returns-in_default-clause-done : goal.returns-in_default-clause-done
 returns-in_default-clause-done g c = λ (notes : Option (List ℕ)) (faults : ℕ).
     let before : Sinks = record { out = g.O.Sink.contents c.args.out.now; out_faults = g.O.Sink.faults c.args.out.now; notes = notes; notes_faults = faults } in
-    subst (IsDone (Bench c.args.number) (bench_plan c.args.number c.args.options.now) before before) (sym c.plain.ensures) (bench-broken c.args.number c.args.options.now before)
+    subst (IsDone (Bench c.args.number) (bench_plan c.args.number c.args.options.now) before before) (sym c.plain.ensures) (bench-broken c.args.number c.args.options.now c.requires.some before)
 
 pub returns-in-NoMemory-clause-done : goal.returns-in-NoMemory-clause-done
 returns-in-NoMemory-clause-done g c = λ (notes : Option (List ℕ)) (faults : ℕ).
     let before : Sinks = record { out = g.O.Sink.contents c.args.out.now; out_faults = g.O.Sink.faults c.args.out.now; notes = notes; notes_faults = faults } in
-    subst (IsDone (Bench c.args.number) (bench_plan c.args.number c.args.options.now) before before) (sym c.plain-in-NoMemory.ensures) (bench-broken c.args.number c.args.options.now before)
+    subst (IsDone (Bench c.args.number) (bench_plan c.args.number c.args.options.now) before before) (sym c.plain-in-NoMemory.ensures) (bench-broken c.args.number c.args.options.now c.requires.some before)
 
 pub write_summary-requires-clause-inside : goal.write_summary-requires-clause-inside
 write_summary-requires-clause-inside g c =

@@ -15,14 +15,14 @@ returns-in-WriteFault-clause-done g c =
     let before : Sinks = record { out = g.O.Sink.contents c.args.out.now; out_faults = g.O.Sink.faults c.args.out.now; notes = g.N.Sink.contents c.args.notes.now; notes_faults = g.N.Sink.faults c.args.notes.now } in
     let after : Sinks = record { out = g.O.Sink.contents c.run_tracks.new.out; out_faults = g.O.Sink.faults c.run_tracks.new.out; notes = g.N.Sink.contents c.run_tracks.new.notes; notes_faults = g.N.Sink.faults c.run_tracks.new.notes } in
     subst (IsDone Run (Runs Run (image_of_loaded c.args.loaded.now) c.args.input c.args.options.now) before after) (sym c.plain.ensures)
-    (run-fails c.args.loaded.now c.args.input c.args.options.now before after c.in-WriteFault.ensures.1)
+    (run-fails c.args.loaded.now c.args.input c.args.options.now c.requires.some before after c.in-WriteFault.ensures.1)
 
 pub returns-in-NoMemory-clause-done : goal.returns-in-NoMemory-clause-done
 returns-in-NoMemory-clause-done g c =
     let before : Sinks = record { out = g.O.Sink.contents c.args.out.now; out_faults = g.O.Sink.faults c.args.out.now; notes = g.N.Sink.contents c.args.notes.now; notes_faults = g.N.Sink.faults c.args.notes.now } in
     let after : Sinks = record { out = g.O.Sink.contents c.run_tracks.new.out; out_faults = g.O.Sink.faults c.run_tracks.new.out; notes = g.N.Sink.contents c.run_tracks.new.notes; notes_faults = g.N.Sink.faults c.run_tracks.new.notes } in
     subst (IsDone Run (Runs Run (image_of_loaded c.args.loaded.now) c.args.input c.args.options.now) before after) (sym c.plain-in-NoMemory.ensures)
-    (run-breaks c.args.loaded.now c.args.input c.args.options.now before after c.in-NoMemory.ensures.1)
+    (run-breaks c.args.loaded.now c.args.input c.args.options.now c.requires.some before after c.in-NoMemory.ensures.1)
 
 pub write_texts-requires-clause-inside : goal.write_texts-requires-clause-inside
 write_texts-requires-clause-inside g c =
