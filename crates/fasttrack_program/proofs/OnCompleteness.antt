@@ -1,7 +1,8 @@
 -- Where no count rose, a call did all that its plan says
-use Rattle.std.proofs.Common.{◌≡◌, ℕ, List, [], ◌++◌, Option, Some, None, ◌⊎◌, inl, inr, refl, sym, ap, ◌∙◌, subst, append-nil, arith}
+use Rattle.std.proofs.Common.{◌≡◌, ℕ, List, [], ◌++◌, Option, Some, None, ◌⊎◌, inl, inr, refl, sym, ap, ◌∙◌, subst, arith}
 use Rattle.std.specs.Prelude.{unwrap_or}
 use Rattle.std.specs.Io.KnownBytes.{Appends}
+use Rattle.std.proofs.KnownBytes.{Appends-nil}
 use Rattle.speculation.specs.declared.history.Entry.{Entry}
 use Rattle.speculation.specs.Run.{Mark, marked}
 use Rattle.host_io.specs.Faults.{Rose, StayedCalm}
@@ -44,10 +45,6 @@ told-result mid new faults faults' said result None same h = h.2
 told-result mid new faults faults' said result (Some line) same (inl h) = h.2
 told-result mid new faults faults' said result (Some line) same (inr h) = h.4 ∙ same
 
-Appends-nothing : (told : Option (List ℕ)) → Appends told told []
-Appends-nothing None = tt
-Appends-nothing (Some bs) = sym (append-nil bs)
-
 -- the line was told whole
 record Told (mid new : Option (List ℕ)) (faults faults' : ℕ) (said result : Answer) (text : List ℕ) : Type 0 where
   pub appends : Appends mid new text
@@ -56,7 +53,7 @@ record Told (mid new : Option (List ℕ)) (faults faults' : ℕ) (said result : 
 
 told-whole : (start : ℕ) (mid new : Option (List ℕ)) (faults faults' : ℕ) (said result : Answer) (line : Option (List ℕ)) → StayedCalm start faults' → faults ≡ start → Tells mid new faults faults' said result line
     → Told mid new faults faults' said result (unwrap_or line [])
-told-whole start mid new faults faults' said result None calm same h = record { appends = subst (λ o. Appends mid o []) (sym h.0) (Appends-nothing mid); calm = h.1; same = h.2 }
+told-whole start mid new faults faults' said result None calm same h = record { appends = subst (λ o. Appends mid o []) (sym h.0) (Appends-nil mid); calm = h.1; same = h.2 }
 told-whole start mid new faults faults' said result (Some line) calm same (inl h) = record { appends = h.0; calm = h.1; same = h.2 }
 told-whole start mid new faults faults' said result (Some line) calm same (inr h) = absurd (calm-not_risen start faults' calm (subst (λ n. Rose n faults') same h.3))
 

@@ -11,7 +11,7 @@ ghost use Rattle.fasttrack_program.specs.Serving.{IsDone, IsServedWith};
 ghost use Rattle.fasttrack_program.specs.TopCall.{IsRefusedEarly, ReadFails, Serves, is_bench, settings_of};
 
 use crate::alone::run_alone;
-use crate::answer::{Answer, answer_of};
+use crate::answer::{Answer, answer_of, answer_of_fault};
 use crate::options::{Options, options_in};
 use crate::read::{read_image, read_input};
 use crate::served::{Served, plain};
@@ -20,7 +20,6 @@ use crate::show_run::show_run;
 use crate::show_trial::show_trial;
 use elf32_loader::Loaded;
 use guest_model::{Bytes, FlatMemory, Regs, State};
-use guest_streams::OutputFault;
 use host_io::{Files, Sink, Source};
 use program_words::{Request, Task};
 use std::alloc::Global;
@@ -51,8 +50,7 @@ fn run_image<O: Sink, N: Sink>(
     };
     match run_alone(alloc, &mut state, input, options.budget, out, notes) {
         Ok(end) => answer_of(end),
-        Err(OutputFault::Write) => Answer::WriteFault,
-        Err(OutputFault::NoMemory) => Answer::NoMemory,
+        Err(fault) => answer_of_fault(fault),
     }
 }
 

@@ -15,11 +15,11 @@ ghost use Rattle.fasttrack_program.specs.Serving.{IsDone};
 ghost use Rattle.fasttrack_program.specs.TextOnSink.{WritesText};
 ghost use Rattle.fasttrack_program.specs.TopCall.{settings_of};
 
-use crate::answer::Answer;
+use crate::answer::{Answer, answer_of_fault};
 use crate::boards::run_tracks;
 use crate::options::Options;
-use crate::report::write_line;
 use crate::served::{Served, plain};
+use crate::texts::write_made;
 use elf32_loader::{ImageFault, Loaded, load};
 use guest_model::{Bytes, NoMemory};
 use guest_streams::OutputFault;
@@ -82,8 +82,7 @@ pub fn show_bench<O: Sink>(alloc: Global, number: u32, options: &Options, out: &
             answer: Answer::Shown,
             history: Some(entries),
         },
-        Err(OutputFault::Write) => plain(Answer::WriteFault),
-        Err(OutputFault::NoMemory) => plain(Answer::NoMemory),
+        Err(fault) => plain(answer_of_fault(fault)),
     }
 }
 
@@ -122,16 +121,14 @@ fn write_summary<O: Sink>(
         (bench_lines number (totals_of rows.now finished.now.count) (released_total entries.now) finished.now.end) result }
 {
     let totals = totals(rows, finished.count);
-    match bench_text(
+    let text = bench_text(
         alloc,
         number,
         &totals,
         released_total(entries),
         &finished.end,
-    ) {
-        Ok(text) => write_line(text.as_str(), out),
-        Err(NoMemory) => Err(OutputFault::NoMemory),
-    }
+    );
+    write_made(text, out)
 }
 
 /// How many bytes these entries released.
