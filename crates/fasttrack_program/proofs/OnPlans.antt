@@ -18,7 +18,7 @@ use Rattle.program_words.specs.declared.request.Task.TheVariants.{Alone, Run, Tr
 use Rattle.fasttrack_program.specs.declared.options.Options.{Options}
 use Rattle.fasttrack_program.specs.declared.served.Served.{Served}
 use Rattle.fasttrack_program.specs.Plan.{Plan, Refusal, Refused, Runs, LongImage, BadFile, LongInput, options_of, image_in, image_limit, input_limit, with_image, with_input, with_bench, bench_plan, plan_of, plan}
-use Rattle.fasttrack_program.specs.Reading.{IsTold, ReadsImage, ReadsInput, CountsReadFault}
+use Rattle.fasttrack_program.specs.Reading.{IsTold, ReadsImage, ReadsInput, ReadsWanted, CountsReadFault}
 use Rattle.fasttrack_program.specs.AnswerLine.{HasNumbers, IsSaidFor, Concludes}
 use Rattle.fasttrack_program.specs.Serving.{answer_of, plainly, completes, with_history, IsDone, IsServedWith}
 use Rattle.fasttrack_program.specs.TopCall.{task_output, EndsAsGuest, StaysWithin, Serves, HasHistoryOf, IsServed, IsAnswered, IsRefusedEarly, is_bench, hands_out}
@@ -149,7 +149,7 @@ module _ (r : Request) (some : 1 ≤ r.tracks) (told_file told_input : Option (L
   long_input i input n h = let long : nat_lt input_limit (length input) ≡ true = lt-ltb input_limit (length input) h in rw (n, long) refl
 
   -- the input was refused
-  pub served-input : (s : Sinks) (l : Loaded) (a : Answer) → r.no_input ≡ false → ReadsImage told_file (Ok l) → ReadsInput told_input (Err a) → IsServedWith (Some r) told_file told_input s s (plainly a)
+  served-input : (s : Sinks) (l : Loaded) (a : Answer) → r.no_input ≡ false → ReadsImage told_file (Ok l) → ReadsInput told_input (Err a) → IsServedWith (Some r) told_file told_input s s (plainly a)
   served-input s l ReadFault n h k = served-read_fault (Some r) some told_file told_input s
   served-input s l NoMemory n h k = served-no_memory (Some r) some told_file told_input s
   served-input s l InputTooLong n h k =
@@ -163,6 +163,18 @@ module _ (r : Request) (some : 1 ≤ r.tracks) (told_file told_input : Option (L
   served-input s l ImageTooLong n h k = absurd k
   served-input s l (BadImage f) n h k = absurd k
   served-input s l WriteFault n h k = absurd k
+
+-- an input that was refused was wanted
+wanted_by : (unread : Bool) (told : Option (List ℕ)) (a : Answer) → ReadsWanted unread told (Err a) → (unread ≡ false) × ReadsInput told (Err a)
+wanted_by true told a h = absurd h
+wanted_by false told a h = (refl, h)
+
+pub wanted : (r : Request) (told : Option (List ℕ)) (a : Answer) → ReadsWanted r.no_input told (Err a) → (r.no_input ≡ false) × ReadsInput told (Err a)
+wanted r told a h = wanted_by r.no_input told a h
+
+pub served-refused : (r : Request) → 1 ≤ r.tracks → (told_file told_input : Option (List ℕ)) → is_bench r.task ≡ false → (s : Sinks) (l : Loaded) (a : Answer) → ReadsImage told_file (Ok l) → ReadsWanted r.no_input told_input (Err a)
+    → IsServedWith (Some r) told_file told_input s s (plainly a)
+served-refused r some told_file told_input reads s l a h k = (let want = wanted r told_input a k in served-input r some told_file told_input reads s l a want.0 h want.1)
 
 -- a plan that was done
 pub served-plan : (r : Request) (told_file told_input : Option (List ℕ)) (old new : Sinks) (v : Served) (p : Plan) (file input : List ℕ) → IsTold told_file file → IsTold told_input input → plan (Some r) file input ≡ p
@@ -181,20 +193,21 @@ served-plan r told_file told_input old new v p file input f i is d = record {
 }
 
 module _ (r : Request) (told_file told_input : Option (List ℕ)) (old new : Sinks) (v : Served) where
-  -- the guest ran without input
-  pub served-no_input : (l : Loaded) → is_bench r.task ≡ false → r.no_input ≡ true → ReadsImage told_file (Ok l) → IsDone r.task (Runs r.task (image_of_loaded l) [] (options_of r)) old new v → IsServedWith (Some r) told_file told_input old new v
-  served-no_input l reads n h d =
-      let none : with_input (image_of_loaded l) r (told_bytes told_input) ≡ Runs r.task (image_of_loaded l) [] (options_of r) = rw n refl in
-      served-plan r told_file told_input old new v (Runs r.task (image_of_loaded l) [] (options_of r)) h.0 (told_bytes told_input) h.1 (told_are told_input)
-      (reads_image r h.0 (told_bytes told_input) (Ok (image_of_loaded l)) reads h.2 ∙ none) d
-
-  -- the guest ran with the input that was read
-  pub served-runs : (l : Loaded) (bs : Bytes) → is_bench r.task ≡ false → r.no_input ≡ false → ReadsImage told_file (Ok l) → ReadsInput told_input (Ok bs) → IsDone r.task (Runs r.task (image_of_loaded l) bs (options_of r)) old new v
+  served-by : (l : Loaded) (bs : Bytes) (unread : Bool) → r.no_input ≡ unread → is_bench r.task ≡ false → ReadsImage told_file (Ok l) → ReadsWanted unread told_input (Ok bs) → IsDone r.task (Runs r.task (image_of_loaded l) bs (options_of r)) old new v
       → IsServedWith (Some r) told_file told_input old new v
-  served-runs l bs reads n h k d =
+  served-by l bs true n reads h k d =
+      let none : with_input (image_of_loaded l) r (told_bytes told_input) ≡ Runs r.task (image_of_loaded l) bs (options_of r) = rw (n, k) refl in
+      served-plan r told_file told_input old new v (Runs r.task (image_of_loaded l) bs (options_of r)) h.0 (told_bytes told_input) h.1 (told_are told_input)
+      (reads_image r h.0 (told_bytes told_input) (Ok (image_of_loaded l)) reads h.2 ∙ none) d
+  served-by l bs false n reads h k d =
       let short : nat_lt input_limit (length bs) ≡ false = grind (arith, nat_tests) in
       let all : with_input (image_of_loaded l) r bs ≡ Runs r.task (image_of_loaded l) bs (options_of r) = rw (n, short) refl in
       served-plan r told_file told_input old new v (Runs r.task (image_of_loaded l) bs (options_of r)) h.0 bs h.1 k.1 (reads_image r h.0 bs (Ok (image_of_loaded l)) reads h.2 ∙ all) d
+
+  -- the guest ran with the input that was read, or without input
+  pub served-runs : (l : Loaded) (bs : Bytes) → is_bench r.task ≡ false → ReadsImage told_file (Ok l) → ReadsWanted r.no_input told_input (Ok bs) → IsDone r.task (Runs r.task (image_of_loaded l) bs (options_of r)) old new v
+      → IsServedWith (Some r) told_file told_input old new v
+  served-runs l bs reads h k d = served-by l bs r.no_input refl reads h k d
 
   -- the bench was done
   pub served-bench : (number : ℕ) → r.task ≡ Bench number → IsDone (Bench number) (bench_plan number (options_of r)) old new v → IsServedWith (Some r) told_file told_input old new v
@@ -232,8 +245,8 @@ early-input told WriteFault h e = e
 early-input told NoMemory h e = e
 
 -- a refused input is none of them
-pub late-input : (told : Option (List ℕ)) (a : Answer) (v : Served) → ReadsInput told (Err a) → v ≡ plainly a → IsRefusedEarly v.answer → ⊥
-late-input told a v h e early = early-input told a h (subst (λ (x : Served). IsRefusedEarly x.answer) e early)
+pub late-input : (unread : Bool) (told : Option (List ℕ)) (a : Answer) (v : Served) → ReadsWanted unread told (Err a) → v ≡ plainly a → IsRefusedEarly v.answer → ⊥
+late-input unread told a v h e early = early-input told a (wanted_by unread told a h).1 (subst (λ (x : Served). IsRefusedEarly x.answer) e early)
 
 early-runs : (task : Task) (i : Image) (input : List ℕ) (o : Options) (entries : List Entry) (old new : Sinks) (a : Answer) → Serves (Runs task i input o) entries old new a → IsRefusedEarly a → ⊥
 early-runs task i input o entries old new Usage h e = (let is = h.0 in absurd (cc))

@@ -192,8 +192,9 @@ abbrev pub needs_workers : Option Request → Bool
 needs_workers None = false
 needs_workers (Some r) = has_tracks r.task && nat_le 1 r.workers
 
--- The call served an answer, told it by its line on notes, and gives it, or WriteFault where the line of a guest's end
--- could not be written. A run that completed hands out its history.
+-- What the call answers and leaves. First `said` was served, which leaves the sinks as in `between`; then its line was
+-- written on notes. The result is `said`, or WriteFault where `said` is a guest's end and its line could not be written. The
+-- history of a run or of a bench that was completed is handed out.
 pub record IsAnswered (request : Option Request) (told_file told_input : Option (List ℕ)) (old new : Sinks) (histories histories' : List (List Entry)) (result : Answer) : Type 0 where
   pub said : Answer
   pub between : Sinks

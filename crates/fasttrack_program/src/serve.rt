@@ -13,7 +13,7 @@ ghost use Rattle.fasttrack_program.specs.TopCall.{IsRefusedEarly, ReadFails, Ser
 use crate::alone::run_alone;
 use crate::answer::{Answer, answer_of, answer_of_fault};
 use crate::options::{Options, options_in};
-use crate::read::{read_image, read_input};
+use crate::read::{read_image, read_wanted};
 use crate::served::{Served, plain};
 use crate::show_bench::show_bench;
 use crate::show_run::show_run;
@@ -112,18 +112,7 @@ pub fn serve_request<F: Files, I: Source, O: Sink, N: Sink>(
         Ok(loaded) => loaded,
         Err(answer) => return plain(answer),
     };
-    if request.no_input {
-        return do_task(
-            alloc,
-            request.task,
-            &loaded,
-            Bytes::new(alloc),
-            &options,
-            out,
-            notes,
-        );
-    }
-    match read_input(alloc, input) {
+    match read_wanted(alloc, request.no_input, input) {
         Ok(bytes) => do_task(alloc, request.task, &loaded, bytes, &options, out, notes),
         Err(answer) => plain(answer),
     }

@@ -30,7 +30,13 @@ use std::alloc::Global;
 /// and writes its summary on `out`; it reads neither `files` nor `input`, and `told` gets its history where the answer is
 /// Shown. Every answer but Exited and Shown is told by one line on `notes`.
 ///
-/// None exactly where the words ask for workers; nothing was read or written then.
+/// What is checked, in this order, the first that refuses deciding: the words (Usage); whether the image file can be read
+/// (ReadFault), its length, at most 33,554,432 bytes (ImageTooLong), and its first fault (BadImage); unless the input is to
+/// be left unread, whether it can be read (ReadFault) and its length, at most 16,777,216 bytes (InputTooLong). Then the task
+/// is done, and at last the answer's line is written. WriteFault comes where `out` or `notes` failed, NoMemory anywhere.
+///
+/// None exactly where the words ask for workers, unless memory ran out; nothing was read or written then. It can't come while
+/// `program_words` takes no number of workers but 0.
 pub fn plain_main<F: Files, I: Source, O: Sink, N: Sink>(
     alloc: Global,
     words: &[String],
