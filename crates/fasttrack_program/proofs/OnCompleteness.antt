@@ -1,13 +1,13 @@
 -- Where no count rose, a call did all that its plan says
-use Rattle.std.proofs.Common.{◌≡◌, ℕ, List, [], ◌++◌, Option, Some, None, ◌⊎◌, inl, inr, refl, sym, ap, ◌∙◌, subst, arith}
-use Rattle.std.specs.Prelude.{unwrap_or}
+use Rattle.std.proofs.Common.{◌≡◌, ℕ, ◌≤◌, Bool, true, false, List, [], ◌++◌, length, Ok, Option, Some, None, ◌⊎◌, inl, inr, refl, sym, ap, ◌∙◌, subst, arith}
+use Rattle.std.specs.Prelude.{unwrap_or, if◌then◌else◌}
 use Rattle.std.specs.Io.KnownBytes.{Appends}
 use Rattle.std.proofs.KnownBytes.{Appends-nil}
 use Rattle.speculation.specs.declared.history.Entry.{Entry}
 use Rattle.speculation.specs.Run.{Mark, marked}
 use Rattle.host_io.specs.Faults.{Rose, StayedCalm}
 use Rattle.elf32_loader.specs.declared.fault.ImageFault.{ImageFault}
-use Rattle.guest_model.specs.Image.{Image, program_alone}
+use Rattle.guest_model.specs.Image.{Image, image, program_alone}
 use Rattle.guest_model.specs.declared.end.End.{End}
 use Rattle.guest_model.specs.declared.end.End.TheVariants as E
 use Rattle.guest_streams.specs.GuestStreams.{Sinks, Gets, GetsAll, FailsAt, end_of}
@@ -18,10 +18,12 @@ use Rattle.fasttrack_program.specs.declared.options.Options.{Options}
 use Rattle.fasttrack_program.specs.declared.answer.Answer.{Answer}
 use Rattle.fasttrack_program.specs.declared.answer.Answer.TheVariants.{Exited, Trapped, Spent, Shown, Usage, ReadFault, ImageTooLong, BadImage, InputTooLong, WriteFault, NoMemory}
 use Rattle.fasttrack_program.specs.AnswerLine.{line_of, unless_told, Tells}
-use Rattle.fasttrack_program.specs.Completeness.{whole_answer, line_text, IsDoneWhole, DoesPlan, IsComplete}
-use Rattle.fasttrack_program.specs.Plan.{Plan, Refusal, Refused, Runs, BadWords, LongImage, BadFile, LongInput, plan}
+use Rattle.fasttrack_program.specs.Completeness.{IsTaskDone, whole_answer, line_text, IsDoneWhole, DoesPlan, IsComplete}
+use Rattle.fasttrack_program.specs.Plan.{Plan, Refusal, Refused, Runs, BadWords, LongImage, BadFile, LongInput, image_limit, input_limit, options_of, plan}
+use Rattle.fasttrack_program.specs.Reading.{IsTold}
 use Rattle.fasttrack_program.specs.Serving.{answer_of}
-use Rattle.fasttrack_program.specs.TopCall.{task_output, EndsAsGuest, EndsWithReport, HasFault, Serves, ReadFails, IsAnswered}
+use Rattle.fasttrack_program.specs.TopCall.{HasHistoryOf, is_bench, task_output, EndsAsGuest, EndsWithReport, HasFault, Serves, ReadFails, IsAnswered}
+use Rattle.fasttrack_program.proofs.OnPlans.{good-runs, bench-runs}
 use Rattle.fasttrack_program.proofs.OnRuns.{noted, behind_all}
 
 -- a count that rose is not as before
@@ -155,3 +157,34 @@ pub read-failed : {I : Type 0} (request : Option Request) (told_file : Option (L
     → StayedCalm files files' → StayedCalm (faults input) (faults input') → ReadFails request told_file files files' faults input input' → ⊥
 read-failed request told_file files files' faults input input' calm calm' (reads, inl h) = calm-not_risen files files' calm h.0
 read-failed request told_file files files' faults input input' calm calm' (reads, inr h) = calm-not_risen (faults input) (faults input') calm' h.rose
+
+-- ---- calls that are done whole
+
+same_input : (unread : Bool) (told : Option (List ℕ)) (given input : List ℕ) → IsTold told given → (unread ≡ false → (told ≡ Some input) × (length input ≤ input_limit))
+    → ((unread ≡ false → length given ≤ input_limit) × ◌≡◌ {A = List ℕ} (if unread then [] else given) (if unread then [] else input))
+same_input true told given input t h = (λ e. cc, refl)
+same_input false told given input t h =
+    let same : given ≡ input = subst (λ o. IsTold o given) (h refl).0 t in
+    (λ e. subst (λ xs. length xs ≤ input_limit) (sym same) (h refl).1, same)
+
+task-done : (p : Plan) (task : Task) (i : Image) (input : List ℕ) (o : Options) (entries : List Entry) (old new : Sinks) (answer : Answer) → p ≡ Runs task i input o → HasHistoryOf p entries → DoesPlan p entries old new answer
+    → IsTaskDone task i input o old new answer
+task-done p task i input o entries old new answer is history done = (entries, subst (λ q. HasHistoryOf q entries) is history, subst (λ q. DoesPlan q entries old new answer) is done)
+
+pub good-done : (request : Request) (told : Option (List ℕ)) (file input : List ℕ) (i : Image) (old new : Sinks) (answer : Answer) → IsComplete (Some request) (Some file) told old new answer
+    → is_bench request.task ≡ false → length file ≤ image_limit → image file ≡ Ok i → (request.no_input ≡ false → (told ≡ Some input) × (length input ≤ input_limit))
+    → (answer ≡ NoMemory) ⊎ IsTaskDone request.task i (if request.no_input then [] else input) (options_of request) old new answer
+good-done request told file input i old new answer (inl e) reads short good few = inl e
+good-done request told file input i old new answer (inr d) reads short good few =
+    let given = same_input request.no_input told d.input input d.input_told few in
+    let short_file = subst (λ xs. length xs ≤ image_limit) (sym d.file_told) short in
+    let good_file = subst (λ xs. image xs ≡ Ok i) (sym d.file_told) good in
+    let is = good-runs request d.file d.input i reads short_file good_file given.0 ∙ ap (λ xs. Runs request.task i xs (options_of request)) given.1 in
+    inr (task-done (plan (Some request) d.file d.input) request.task i (if request.no_input then [] else input) (options_of request) d.entries old new answer is d.history d.done)
+
+pub bench-done : (request : Request) (told_file told_input : Option (List ℕ)) (number : ℕ) (old new : Sinks) (answer : Answer) → IsComplete (Some request) told_file told_input old new answer
+    → request.task ≡ Bench number → (answer ≡ NoMemory) ⊎ ((i : Image) × IsTaskDone (Bench number) i [] (options_of request) old new answer)
+bench-done request told_file told_input number old new answer (inl e) is = inl e
+bench-done request told_file told_input number old new answer (inr d) is =
+    let runs = bench-runs request d.file d.input number is in
+    inr (runs.0, task-done (plan (Some request) d.file d.input) (Bench number) runs.0 [] (options_of request) d.entries old new answer runs.1 d.history d.done)

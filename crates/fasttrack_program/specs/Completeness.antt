@@ -14,7 +14,7 @@ use Rattle.fasttrack_program.specs.AnswerLine.{line_of}
 use Rattle.fasttrack_program.specs.Plan.{Plan, Refused, Runs, BadWords, LongImage, BadFile, LongInput, plan}
 use Rattle.fasttrack_program.specs.Reading.{IsTold}
 use Rattle.fasttrack_program.specs.Serving.{answer_of}
-use Rattle.fasttrack_program.specs.TopCall.{HasHistoryOf, task_output}
+use Rattle.fasttrack_program.specs.TopCall.{HasHistory, HasHistoryOf, task_output}
 use Rattle.fasttrack_program.specs.declared.options.Options.{Options}
 use Rattle.fasttrack_program.specs.declared.answer.Answer.{Answer}
 use Rattle.fasttrack_program.specs.declared.answer.Answer.TheVariants.{Shown, Usage, ImageTooLong, BadImage, InputTooLong, NoMemory}
@@ -41,6 +41,10 @@ line_text answer = unwrap_or (line_of answer) []
 abbrev pub IsDoneWhole : Task → Image → List ℕ → Options → List Entry → Sinks → Sinks → Answer → Type 0
 IsDoneWhole task i input o entries old new answer =
     (answer ≡ whole_answer task i input o) × Gets old new (task_output task i input o entries ++ marked 2 (line_text answer))
+
+-- the same with some entries, which are the task's history
+abbrev pub IsTaskDone : Task → Image → List ℕ → Options → Sinks → Sinks → Answer → Type 0
+IsTaskDone task i input o old new answer = (entries : List Entry) × HasHistory task i input o entries × IsDoneWhole task i input o entries old new answer
 
 -- the answer of a call that is refused is that of its refusal
 abbrev pub DoesPlan : Plan → List Entry → Sinks → Sinks → Answer → Type 0

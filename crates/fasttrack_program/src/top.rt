@@ -53,8 +53,9 @@ pub fn plain_main<F: Files, I: Source, O: Sink, N: Sink>(
         told.old told.new answer) }
 
     // Where no count rose, the answer and the output are what the words, the image and the input ask for, or memory ran
-    // out: for words that are accepted, an image without a fault and an input within its limit the program's own end with
-    // all of its output, or Shown with the whole report (`laws::good_calls_run`).
+    // out. So where the words are accepted, the image is within its limit and without a fault, and the input is within its
+    // limit, they are the program's own end with all of its output, or Shown with the whole report
+    // (`laws::good_calls_are_done`).
     ensures complete { let request = request_of (map string_bytes words.now) in
         let before : Sinks = record { out = O.contents out.old; out_faults = O.faults out.old; notes = N.contents notes.old; notes_faults = N.faults notes.old } in
         let after : Sinks = record { out = O.contents out.new; out_faults = O.faults out.new; notes = N.contents notes.new; notes_faults = N.faults notes.new } in
