@@ -1,4 +1,5 @@
 pub mod OnBenches
+pub mod OnCompleteness
 pub mod OnHistories
 pub mod OnImages
 pub mod OnLines

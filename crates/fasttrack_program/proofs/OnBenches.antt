@@ -1,19 +1,19 @@
 -- The image of every bench has no fault
-use Rattle.std.proofs.Common.{◌≡◌, ℕ, zero, suc, ◌+◌, ◌*◌, ◌<◌, ◌≤◌, ◌^◌, true, false, List, [], ◌∷◌, ◌++◌, length, map, get_or, refl, sym, ap, ◌∙◌, subst, arith, zero-add, Result, Ok, Err}
+use Rattle.std.proofs.Common.{◌≡◌, ℕ, zero, suc, ◌+◌, ◌*◌, ◌<◌, ◌≤◌, ◌^◌, true, false, List, [], ◌∷◌, ◌++◌, length, map, get_or, refl, subst, arith, Result, Ok, Err}
 use Rattle.std.specs.Prelude.{◌==◌, if◌then◌else◌, ℤ, pos, negsuc, IsOkAnd}
 use Rattle.std.specs.List.{flat_map, range_with_len}
 use Rattle.guest_model.specs.Image.{Image, image}
 use Rattle.guest_model.specs.ImageFault.{Fault}
 use Rattle.guest_model.specs.declared.instr.Instr.{Instr}
-use Rattle.guest_model.specs.declared.instr.Instr.TheVariants.{Upper, Jal, Branch, Store, Op, Ecall}
+use Rattle.guest_model.specs.declared.instr.Instr.TheVariants.{Jal, Branch, Store, Op}
 use Rattle.guest_model.specs.declared.instr.Cond.TheVariants.{Ne}
 use Rattle.guest_model.specs.declared.instr.RegOp.TheVariants as RegOps
 use Rattle.guest_model.specs.declared.instr.StoreWidth.TheVariants.{W}
-use Rattle.rv32_asm.specs.Constant.{upper_part, lower_part}
+use Rattle.rv32_asm.specs.Constant.{lower_part}
 use Rattle.rv32_asm.specs.Encoding.{encoding}
-use Rattle.rv32_asm.specs.Generated.{addi, constant, call, opening, original, shortcut, endless, closing, versions, turns, kind, region, all_regions, prologue, epilogue, words_around, zeros, generated}
+use Rattle.rv32_asm.specs.Generated.{addi, constant, call, opening, original, shortcut, endless, closing, versions, turns, kind, region, all_regions, prologue, epilogue, generated}
 use Rattle.rv32_asm.proofs.Regions.{HasPieces, HasRegions, no_regions, more_regions, around_loads}
-use Rattle.fasttrack_program.specs.Plan.{Refusal, bench_image, bench_regions, refused_file}
+use Rattle.fasttrack_program.specs.Plan.{bench_image, bench_regions, refused_file}
 
 -- ---- the words of the instructions fit
 

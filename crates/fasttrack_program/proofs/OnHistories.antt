@@ -1,5 +1,5 @@
 -- Every plan has a history, and what becomes of it
-use Rattle.std.proofs.Common.{◌≡◌, ℕ, zero, suc, ◌≤◌, Bool, true, false, List, [], ◌∷◌, ◌++◌, length, Option, Some, None, Result, Ok, Err, ◌⊎◌, inl, inr, refl, sym, ap, ◌∙◌, subst, arith}
+use Rattle.std.proofs.Common.{◌≡◌, ℕ, ◌≤◌, Bool, true, false, List, [], ◌∷◌, ◌++◌, length, Option, Some, None, Result, Ok, Err, ◌⊎◌, inl, inr, refl, sym, ap, ◌∙◌, subst}
 use Rattle.std.specs.Prelude.{nat_lt, if◌then◌else◌}
 use Rattle.speculation.specs.declared.history.Entry.{Entry}
 use Rattle.speculation.specs.Serial.{IsSerial}
@@ -11,13 +11,14 @@ use Rattle.guest_model.specs.Rv32.{rv32}
 use Rattle.rv32_law.specs.GuestStates.{IsGuestState}
 use Rattle.rv32_law.proofs.Differences.{exact-rv32}
 use Rattle.rv32_asm.specs.Generated.{generated}
-use Rattle.program_words.specs.CommandLine.{Request}
+use Rattle.program_words.specs.CommandLine.{Request, request_of}
 use Rattle.program_words.specs.declared.request.Task.{Task}
 use Rattle.program_words.specs.declared.request.Task.TheVariants.{Alone, Run, Trial, Bench}
+use Rattle.program_words.proofs.InRange.{in_range}
 use Rattle.fasttrack_program.specs.declared.options.Options.{Options}
 use Rattle.fasttrack_program.specs.declared.answer.Answer.{Answer}
 use Rattle.fasttrack_program.specs.declared.answer.Answer.TheVariants.{Exited, Trapped, Spent, Shown, Usage, ReadFault, ImageTooLong, BadImage, InputTooLong, WriteFault, NoMemory}
-use Rattle.fasttrack_program.specs.AnswerLine.{line_of, unless_told, IsSaidFor, Tells, Concludes}
+use Rattle.fasttrack_program.specs.AnswerLine.{HasNumbers, line_of, unless_told, IsSaidFor, Tells, Concludes}
 use Rattle.fasttrack_program.specs.Plan.{Refusal, LongImage, LongInput, Refused, Runs, options_of, refused_file, image_in, image_limit, input_limit, with_image, bench_regions, bench_image, with_bench, bench_plan, plan_of, plan}
 use Rattle.fasttrack_program.specs.Serving.{handed_by, completes, with_history}
 use Rattle.fasttrack_program.specs.TopCall.{settings_of, HasHistory, HasHistoryOf, hands_out, histories_after}
@@ -25,37 +26,33 @@ use Rattle.fasttrack_program.proofs.OnImages.{image-guest}
 
 -- ---- a history of every plan
 
-serial_by : (input : List ℕ) (i : Image) (o : Options) (tracks : ℕ) → o.tracks ≡ tracks → IsGuestState input (start_of i) → (entries : List Entry) × (1 ≤ o.tracks → IsSerial (rv32 input) (settings_of o) (start_of i) entries)
-serial_by input i o zero e guest = ([], λ (some : 1 ≤ o.tracks). absurd (omega (arith, some, e)))
-serial_by input i o (suc n) e guest =
-    let all : SerialHistory (rv32 input) (settings_of o) (start_of i) = serial-whole (rv32 input) (settings_of o) (start_of i) (exact-rv32 input (start_of i) guest) (omega (arith, e)) in
-    (all.entries, λ (some : 1 ≤ o.tracks). all.serial)
-
 -- the serial history of a guest
-pub history_of_run : (input : List ℕ) (i : Image) (o : Options) → IsGuestState input (start_of i) → (entries : List Entry) × (1 ≤ o.tracks → IsSerial (rv32 input) (settings_of o) (start_of i) entries)
-history_of_run input i o guest = serial_by input i o o.tracks refl guest
+pub history_of_run : (input : List ℕ) (i : Image) (o : Options) → 1 ≤ o.tracks → IsGuestState input (start_of i) → (entries : List Entry) × IsSerial (rv32 input) (settings_of o) (start_of i) entries
+history_of_run input i o some guest =
+    let all : SerialHistory (rv32 input) (settings_of o) (start_of i) = serial-whole (rv32 input) (settings_of o) (start_of i) (exact-rv32 input (start_of i) guest) some in
+    (all.entries, all.serial)
 
-history_of_task : (task : Task) (input : List ℕ) (i : Image) (o : Options) → IsGuestState input (start_of i) → (entries : List Entry) × HasHistory task i input o entries
-history_of_task Alone input i o guest = ([], refl)
-history_of_task Run input i o guest = history_of_run input i o guest
-history_of_task Trial input i o guest = ([], refl)
-history_of_task (Bench number) input i o guest = history_of_run input i o guest
+history_of_task : (task : Task) (input : List ℕ) (i : Image) (o : Options) → 1 ≤ o.tracks → IsGuestState input (start_of i) → (entries : List Entry) × HasHistory task i input o entries
+history_of_task Alone input i o some guest = ([], refl)
+history_of_task Run input i o some guest = history_of_run input i o some guest
+history_of_task Trial input i o some guest = ([], refl)
+history_of_task (Bench number) input i o some guest = history_of_run input i o some guest
 
-history_by_input : (task : Task) (i : Image) (input : List ℕ) (o : Options) (unread long : Bool) → ((some : List ℕ) → IsGuestState some (start_of i))
+history_by_input : (task : Task) (i : Image) (input : List ℕ) (o : Options) (unread long : Bool) → 1 ≤ o.tracks → ((some : List ℕ) → IsGuestState some (start_of i))
     → (entries : List Entry) × HasHistoryOf (if unread then Runs task i [] o else (if long then Refused LongInput else Runs task i input o)) entries
-history_by_input task i input o true long guest = history_of_task task [] i o (guest [])
-history_by_input task i input o false true guest = ([], refl)
-history_by_input task i input o false false guest = history_of_task task input i o (guest input)
+history_by_input task i input o true long some guest = history_of_task task [] i o some (guest [])
+history_by_input task i input o false true some guest = ([], refl)
+history_by_input task i input o false false some guest = history_of_task task input i o some (guest input)
 
-history_by_image : (r : Request) (input : List ℕ) (found : Result Image Refusal) → ((i : Image) → found ≡ Ok i → (some : List ℕ) → IsGuestState some (start_of i))
+history_by_image : (r : Request) (input : List ℕ) (found : Result Image Refusal) → 1 ≤ r.tracks → ((i : Image) → found ≡ Ok i → (some : List ℕ) → IsGuestState some (start_of i))
     → (entries : List Entry) × HasHistoryOf (with_image r input found) entries
-history_by_image r input (Err f) guest = ([], refl)
-history_by_image r input (Ok i) guest = history_by_input r.task i input (options_of r) r.no_input (nat_lt input_limit (length input)) (guest i refl)
+history_by_image r input (Err f) some guest = ([], refl)
+history_by_image r input (Ok i) some guest = history_by_input r.task i input (options_of r) r.no_input (nat_lt input_limit (length input)) some (guest i refl)
 
-history_by_bench : (number : ℕ) (o : Options) (found : Result Image Refusal) → ((i : Image) → found ≡ Ok i → IsGuestState [] (start_of i))
+history_by_bench : (number : ℕ) (o : Options) (found : Result Image Refusal) → 1 ≤ o.tracks → ((i : Image) → found ≡ Ok i → IsGuestState [] (start_of i))
     → (entries : List Entry) × HasHistoryOf (with_bench number o found) entries
-history_by_bench number o (Err f) guest = ([], refl)
-history_by_bench number o (Ok i) guest = history_of_run [] i o (guest i refl)
+history_by_bench number o (Err f) some guest = ([], refl)
+history_by_bench number o (Ok i) some guest = history_of_run [] i o some (guest i refl)
 
 refused_file-ok : (r : Result Image Fault) (i : Image) → refused_file r ≡ Ok i → r ≡ Ok i
 refused_file-ok (Ok j) i h = (let same : j ≡ i = cc in ap Ok same)
@@ -65,25 +62,37 @@ image_in-ok_by : (long : Bool) (r : Result Image Fault) (i : Image) → (if long
 image_in-ok_by true r i h = absurd (cc)
 image_in-ok_by false r i h = refused_file-ok r i h
 
-history_by_file : (r : Request) (file input : List ℕ) → (entries : List Entry) × HasHistoryOf (with_image r input (image_in file)) entries
-history_by_file r file input =
-    history_by_image r input (image_in file)
-    (λ i e some. image-guest some file i (image_in-ok_by (nat_lt image_limit (length file)) (image file) i e))
+history_by_file : (r : Request) (file input : List ℕ) → 1 ≤ r.tracks → (entries : List Entry) × HasHistoryOf (with_image r input (image_in file)) entries
+history_by_file r file input some =
+    history_by_image r input (image_in file) some
+    (λ i e given. image-guest given file i (image_in-ok_by (nat_lt image_limit (length file)) (image file) i e))
 
-pub history_of_bench : (number : ℕ) (o : Options) → (entries : List Entry) × HasHistoryOf (bench_plan number o) entries
-history_of_bench number o =
-    history_by_bench number o (bench_image number)
+pub history_of_bench : (number : ℕ) (o : Options) → 1 ≤ o.tracks → (entries : List Entry) × HasHistoryOf (bench_plan number o) entries
+history_of_bench number o some =
+    history_by_bench number o (bench_image number) some
     (λ i e. image-guest [] (generated number bench_regions) i (refused_file-ok (image (generated number bench_regions)) i e))
 
-history_by_task : (task : Task) (r : Request) (file input : List ℕ) → (entries : List Entry) × HasHistoryOf (plan_of task r file input) entries
-history_by_task Alone r file input = history_by_file r file input
-history_by_task Run r file input = history_by_file r file input
-history_by_task Trial r file input = history_by_file r file input
-history_by_task (Bench number) r file input = history_of_bench number (options_of r)
+history_by_task : (task : Task) (r : Request) (file input : List ℕ) → 1 ≤ r.tracks → (entries : List Entry) × HasHistoryOf (plan_of task r file input) entries
+history_by_task Alone r file input some = history_by_file r file input some
+history_by_task Run r file input some = history_by_file r file input some
+history_by_task Trial r file input some = history_by_file r file input some
+history_by_task (Bench number) r file input some = history_of_bench number (options_of r) some
 
-pub history_of : (r : Option Request) (file input : List ℕ) → (entries : List Entry) × HasHistoryOf (plan r file input) entries
-history_of None file input = ([], refl)
-history_of (Some r) file input = history_by_task r.task r file input
+-- at least one region may be open
+abbrev pub AllowsRegion : Option Request → Type 0
+AllowsRegion None = Unit {0}
+AllowsRegion (Some r) = 1 ≤ r.tracks
+
+pub words-allow : (words : List (List ℕ)) → AllowsRegion (request_of words)
+words-allow words = by (request_of words) refl
+  where
+    by : (r : Option Request) → request_of words ≡ r → AllowsRegion r
+    by None e = tt
+    by (Some r) e = (in_range words r e).least_tracks
+
+pub history_of : (r : Option Request) (file input : List ℕ) → AllowsRegion r → (entries : List Entry) × HasHistoryOf (plan r file input) entries
+history_of None file input some = ([], refl)
+history_of (Some r) file input some = history_by_task r.task r file input some
 
 -- ---- what is handed out
 
@@ -188,3 +197,16 @@ said-for answer said (inr e) is =
 -- it is the answer that was served
 pub read_fault-served : (old new : Option (List ℕ)) (faults faults' : ℕ) (answer result : Answer) → Concludes old new faults faults' answer result → result ≡ ReadFault → answer ≡ ReadFault
 read_fault-served old new faults faults' answer result c e = said-for answer c.said c.for_answer (said-tells old new faults faults' c.said result (line_of c.said) c.tells e)
+
+told-tells : (old new : Option (List ℕ)) (faults faults' : ℕ) (said result : Answer) (line : Option (List ℕ)) → Tells old new faults faults' said result line → said ≡ ReadFault → result ≡ ReadFault
+told-tells old new faults faults' said result None h e = h.2 ∙ e
+told-tells old new faults faults' said result (Some line) (inl h) e = h.2 ∙ e
+told-tells old new faults faults' said result (Some line) (inr h) e = h.4 ∙ ap unless_told e
+
+told-for : (answer said : Answer) → IsSaidFor answer said → answer ≡ ReadFault → said ≡ ReadFault
+told-for answer said (inl e) is = e ∙ is
+told-for answer said (inr e) is = absurd (subst HasNumbers is e.1)
+
+-- and where it was served it is the answer
+pub read_fault-told : (old new : Option (List ℕ)) (faults faults' : ℕ) (answer result : Answer) → Concludes old new faults faults' answer result → answer ≡ ReadFault → result ≡ ReadFault
+read_fault-told old new faults faults' answer result c e = told-tells old new faults faults' c.said result (line_of c.said) c.tells (told-for answer c.said c.for_answer e)

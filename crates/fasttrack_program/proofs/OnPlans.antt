@@ -1,6 +1,6 @@
 -- From what was read and run to the plan of the call
-use Rattle.std.proofs.Common.{◌≡◌, ℕ, ◌<◌, true, false, List, [], length, Option, Some, None, IfSome, Result, Ok, Err, inl, inr, refl, sym, ap, ◌∙◌, subst, append-nil, arith}
-use Rattle.std.specs.Prelude.{nat_lt}
+use Rattle.std.proofs.Common.{◌≡◌, ℕ, ◌<◌, ◌≤◌, Bool, true, false, List, [], length, Option, Some, None, IfSome, Result, Ok, Err, inl, inr, refl, sym, ap, ◌∙◌, subst, append-nil, arith}
+use Rattle.std.specs.Prelude.{nat_lt, if◌then◌else◌}
 use Rattle.std.proofs.lemmas.Bool.{lt-ltb}
 use Rattle.std.proofs.lemmas.Bool.Decides.{nat_tests}
 use Rattle.speculation.specs.declared.history.Entry.{Entry}
@@ -8,7 +8,7 @@ use Rattle.host_io.specs.Faults.{Rose}
 use Rattle.elf32_loader.specs.LoadedImage.{image_of_loaded}
 use Rattle.elf32_loader.specs.declared.loaded.Loaded.{Loaded}
 use Rattle.basic_types.specs.declared.bytes.Bytes.{Bytes}
-use Rattle.guest_model.specs.Image.{Image, program_alone}
+use Rattle.guest_model.specs.Image.{Image, image, program_alone}
 use Rattle.guest_model.specs.declared.end.End.{End}
 use Rattle.guest_model.specs.declared.end.End.TheVariants as E
 use Rattle.guest_streams.specs.GuestStreams.{Sinks, GetsAll, end_of}
@@ -17,15 +17,16 @@ use Rattle.program_words.specs.declared.request.Task.{Task}
 use Rattle.program_words.specs.declared.request.Task.TheVariants.{Alone, Run, Trial, Bench}
 use Rattle.fasttrack_program.specs.declared.options.Options.{Options}
 use Rattle.fasttrack_program.specs.declared.served.Served.{Served}
-use Rattle.fasttrack_program.specs.Plan.{Plan, Refusal, Refused, Runs, LongImage, BadFile, LongInput, options_of, image_in, input_limit, with_image, with_input, bench_plan, plan_of, plan}
-use Rattle.fasttrack_program.specs.Reading.{IsTold, ReadsImage, ReadsInput, CountsReadFault}
+use Rattle.fasttrack_program.specs.Plan.{Plan, Refusal, Refused, Runs, LongImage, BadFile, LongInput, options_of, image_in, image_limit, input_limit, with_image, with_input, with_bench, bench_plan, plan_of, plan}
+use Rattle.fasttrack_program.specs.Reading.{IsTold, ReadsImage, ReadsInput, ReadsWanted, CountsReadFault}
 use Rattle.fasttrack_program.specs.AnswerLine.{HasNumbers, IsSaidFor, Concludes}
 use Rattle.fasttrack_program.specs.Serving.{answer_of, plainly, completes, with_history, IsDone, IsServedWith}
 use Rattle.fasttrack_program.specs.TopCall.{task_output, EndsAsGuest, StaysWithin, Serves, HasHistoryOf, IsServed, IsAnswered, IsRefusedEarly, is_bench, hands_out}
 use Rattle.fasttrack_program.specs.declared.answer.Answer.{Answer}
 use Rattle.fasttrack_program.specs.declared.answer.Answer.TheVariants.{Exited, Trapped, Spent, Shown, Usage, ReadFault, ImageTooLong, BadImage, InputTooLong, WriteFault, NoMemory}
 use Rattle.guest_streams.proofs.OnStreams.{Gets-nothing, IsCalm-refl}
-use Rattle.fasttrack_program.proofs.OnHistories.{history_of, handed-nothing, added}
+use Rattle.fasttrack_program.proofs.OnBenches.{bench-loads}
+use Rattle.fasttrack_program.proofs.OnHistories.{AllowsRegion, history_of, handed-nothing, added}
 
 -- what holds of every value holds of the one that may be there
 pub of_any : {A : Type 0} (o : Option A) (P : A → Type 0) → ((x : A) → P x) → IfSome o P
@@ -54,10 +55,10 @@ StaysWithin-refl (Runs task i input o) entries s = record {
 }
 
 -- a call that was served before the guest ran, for some file and some input
-module _ (r : Option Request) (told_file told_input : Option (List ℕ)) (s : Sinks) (a : Answer) (lacks : completes a ≡ false) where
+module _ (r : Option Request) (some : AllowsRegion r) (told_file told_input : Option (List ℕ)) (s : Sinks) (a : Answer) (lacks : completes a ≡ false) where
   pub served-early : (file input : List ℕ) → IsTold told_file file → IsTold told_input input → ((entries : List Entry) → Serves (plan r file input) entries s s a) → IsServedWith r told_file told_input s s (plainly a)
   served-early file input f i serves =
-      let history = history_of r file input in
+      let history = history_of r file input some in
       record {
         entries = history.0;
         served = record { file = file; input = input; file_told = f; input_told = i; history = history.1; serves = serves history.0 };
@@ -73,14 +74,14 @@ module _ (r : Option Request) (told_file told_input : Option (List ℕ)) (s : Si
 -- the words ask for nothing
 pub served-usage : (told_file told_input : Option (List ℕ)) (s : Sinks) → IsServedWith None told_file told_input s s (plainly Usage)
 served-usage told_file told_input s =
-    served-early None told_file told_input s Usage refl (told_bytes told_file) (told_bytes told_input) (told_are told_file) (told_are told_input) (λ entries. (refl, refl))
+    served-early None tt told_file told_input s Usage refl (told_bytes told_file) (told_bytes told_input) (told_are told_file) (told_are told_input) (λ entries. (refl, refl))
 
 -- there was no memory before anything was written
-pub served-no_memory : (r : Option Request) (told_file told_input : Option (List ℕ)) (s : Sinks) → IsServedWith r told_file told_input s s (plainly NoMemory)
-served-no_memory r told_file told_input s = served-anyhow r told_file told_input s NoMemory refl (λ p entries. StaysWithin-refl p entries s)
+pub served-no_memory : (r : Option Request) → AllowsRegion r → (told_file told_input : Option (List ℕ)) (s : Sinks) → IsServedWith r told_file told_input s s (plainly NoMemory)
+served-no_memory r some told_file told_input s = served-anyhow r some told_file told_input s NoMemory refl (λ p entries. StaysWithin-refl p entries s)
 
-served-read_fault : (r : Option Request) (told_file told_input : Option (List ℕ)) (s : Sinks) → IsServedWith r told_file told_input s s (plainly ReadFault)
-served-read_fault r told_file told_input s = served-anyhow r told_file told_input s ReadFault refl (λ p entries. refl)
+served-read_fault : (r : Option Request) → AllowsRegion r → (told_file told_input : Option (List ℕ)) (s : Sinks) → IsServedWith r told_file told_input s s (plainly ReadFault)
+served-read_fault r some told_file told_input s = served-anyhow r some told_file told_input s ReadFault refl (λ p entries. refl)
 
 -- ---- the image and the input
 
@@ -100,17 +101,41 @@ reads_image_by (Bench number) r file input h = absurd (cc)
 reads_image : (r : Request) (file input : List ℕ) (found : Result Image Refusal) → is_bench r.task ≡ false → image_in file ≡ found → plan (Some r) file input ≡ with_image r input found
 reads_image r file input found h e = reads_image_by r.task r file input h ∙ ap (with_image r input) e
 
-module _ (r : Request) (told_file told_input : Option (List ℕ)) (reads : is_bench r.task ≡ false) where
+-- ---- calls that are done
+
+whole_file : (file : List ℕ) (i : Image) → length file ≤ image_limit → image file ≡ Ok i → image_in file ≡ Ok i
+whole_file file i h e =
+    let short : nat_lt image_limit (length file) ≡ false = grind (arith, nat_tests) in
+    rw (short, e) refl
+
+given_input : (i : Image) (r : Request) (input : List ℕ) (unread : Bool) → r.no_input ≡ unread → (unread ≡ false → length input ≤ input_limit) → with_input i r input ≡ Runs r.task i (if unread then [] else input) (options_of r)
+given_input i r input true e h = rw e refl
+given_input i r input false e h =
+    let short : nat_lt input_limit (length input) ≡ false = (let few = h refl in grind (arith, nat_tests)) in
+    rw (e, short) refl
+
+pub good-runs : (r : Request) (file input : List ℕ) (i : Image) → is_bench r.task ≡ false → length file ≤ image_limit → image file ≡ Ok i → (r.no_input ≡ false → length input ≤ input_limit)
+    → plan (Some r) file input ≡ Runs r.task i (if r.no_input then [] else input) (options_of r)
+good-runs r file input i reads short good few = reads_image r file input (Ok i) reads (whole_file file i short good) ∙ given_input i r input r.no_input refl few
+
+pub bench-runs : (r : Request) (file input : List ℕ) (number : ℕ) → r.task ≡ Bench number → (i : Image) × (plan (Some r) file input ≡ Runs (Bench number) i [] (options_of r))
+bench-runs r file input number e =
+    let loads = bench-loads number in
+    (loads.0, ap (λ task. plan_of task r file input) e ∙ ap (with_bench number (options_of r)) loads.1)
+
+-- ---- what was read
+
+module _ (r : Request) (some : 1 ≤ r.tracks) (told_file told_input : Option (List ℕ)) (reads : is_bench r.task ≡ false) where
   -- the image was refused
   pub served-image : (s : Sinks) (a : Answer) → ReadsImage told_file (Err a) → IsServedWith (Some r) told_file told_input s s (plainly a)
-  served-image s ReadFault h = served-read_fault (Some r) told_file told_input s
-  served-image s NoMemory h = served-no_memory (Some r) told_file told_input s
+  served-image s ReadFault h = served-read_fault (Some r) some told_file told_input s
+  served-image s NoMemory h = served-no_memory (Some r) some told_file told_input s
   served-image s ImageTooLong h =
-      served-early (Some r) told_file told_input s ImageTooLong refl h.0 (told_bytes told_input) h.1 (told_are told_input)
+      served-early (Some r) some told_file told_input s ImageTooLong refl h.0 (told_bytes told_input) h.1 (told_are told_input)
       (λ entries. (reads_image r h.0 (told_bytes told_input) (Err LongImage) reads h.2, refl))
   served-image s (BadImage f) h =
       let is = reads_image r h.0 (told_bytes told_input) (Err (BadFile h.1)) reads h.4 in
-      served-early (Some r) told_file told_input s (BadImage f) refl h.0 (told_bytes told_input) h.2 (told_are told_input)
+      served-early (Some r) some told_file told_input s (BadImage f) refl h.0 (told_bytes told_input) h.2 (told_are told_input)
       (λ entries. subst (λ p. Serves p entries s s (BadImage f)) (sym is) (h.3, refl))
   served-image s (Exited c) h = absurd h
   served-image s (Trapped t pc) h = absurd h
@@ -124,11 +149,11 @@ module _ (r : Request) (told_file told_input : Option (List ℕ)) (reads : is_be
   long_input i input n h = let long : nat_lt input_limit (length input) ≡ true = lt-ltb input_limit (length input) h in rw (n, long) refl
 
   -- the input was refused
-  pub served-input : (s : Sinks) (l : Loaded) (a : Answer) → r.no_input ≡ false → ReadsImage told_file (Ok l) → ReadsInput told_input (Err a) → IsServedWith (Some r) told_file told_input s s (plainly a)
-  served-input s l ReadFault n h k = served-read_fault (Some r) told_file told_input s
-  served-input s l NoMemory n h k = served-no_memory (Some r) told_file told_input s
+  served-input : (s : Sinks) (l : Loaded) (a : Answer) → r.no_input ≡ false → ReadsImage told_file (Ok l) → ReadsInput told_input (Err a) → IsServedWith (Some r) told_file told_input s s (plainly a)
+  served-input s l ReadFault n h k = served-read_fault (Some r) some told_file told_input s
+  served-input s l NoMemory n h k = served-no_memory (Some r) some told_file told_input s
   served-input s l InputTooLong n h k =
-      served-early (Some r) told_file told_input s InputTooLong refl h.0 k.0 h.1 k.1
+      served-early (Some r) some told_file told_input s InputTooLong refl h.0 k.0 h.1 k.1
       (λ entries. (reads_image r h.0 k.0 (Ok (image_of_loaded l)) reads h.2 ∙ long_input (image_of_loaded l) k.0 n k.2, refl))
   served-input s l (Exited c) n h k = absurd k
   served-input s l (Trapped t pc) n h k = absurd k
@@ -138,6 +163,18 @@ module _ (r : Request) (told_file told_input : Option (List ℕ)) (reads : is_be
   served-input s l ImageTooLong n h k = absurd k
   served-input s l (BadImage f) n h k = absurd k
   served-input s l WriteFault n h k = absurd k
+
+-- an input that was refused was wanted
+wanted_by : (unread : Bool) (told : Option (List ℕ)) (a : Answer) → ReadsWanted unread told (Err a) → (unread ≡ false) × ReadsInput told (Err a)
+wanted_by true told a h = absurd h
+wanted_by false told a h = (refl, h)
+
+pub wanted : (r : Request) (told : Option (List ℕ)) (a : Answer) → ReadsWanted r.no_input told (Err a) → (r.no_input ≡ false) × ReadsInput told (Err a)
+wanted r told a h = wanted_by r.no_input told a h
+
+pub served-refused : (r : Request) → 1 ≤ r.tracks → (told_file told_input : Option (List ℕ)) → is_bench r.task ≡ false → (s : Sinks) (l : Loaded) (a : Answer) → ReadsImage told_file (Ok l) → ReadsWanted r.no_input told_input (Err a)
+    → IsServedWith (Some r) told_file told_input s s (plainly a)
+served-refused r some told_file told_input reads s l a h k = (let want = wanted r told_input a k in served-input r some told_file told_input reads s l a want.0 h want.1)
 
 -- a plan that was done
 pub served-plan : (r : Request) (told_file told_input : Option (List ℕ)) (old new : Sinks) (v : Served) (p : Plan) (file input : List ℕ) → IsTold told_file file → IsTold told_input input → plan (Some r) file input ≡ p
@@ -156,20 +193,21 @@ served-plan r told_file told_input old new v p file input f i is d = record {
 }
 
 module _ (r : Request) (told_file told_input : Option (List ℕ)) (old new : Sinks) (v : Served) where
-  -- the guest ran without input
-  pub served-no_input : (l : Loaded) → is_bench r.task ≡ false → r.no_input ≡ true → ReadsImage told_file (Ok l) → IsDone r.task (Runs r.task (image_of_loaded l) [] (options_of r)) old new v → IsServedWith (Some r) told_file told_input old new v
-  served-no_input l reads n h d =
-      let none : with_input (image_of_loaded l) r (told_bytes told_input) ≡ Runs r.task (image_of_loaded l) [] (options_of r) = rw n refl in
-      served-plan r told_file told_input old new v (Runs r.task (image_of_loaded l) [] (options_of r)) h.0 (told_bytes told_input) h.1 (told_are told_input)
-      (reads_image r h.0 (told_bytes told_input) (Ok (image_of_loaded l)) reads h.2 ∙ none) d
-
-  -- the guest ran with the input that was read
-  pub served-runs : (l : Loaded) (bs : Bytes) → is_bench r.task ≡ false → r.no_input ≡ false → ReadsImage told_file (Ok l) → ReadsInput told_input (Ok bs) → IsDone r.task (Runs r.task (image_of_loaded l) bs (options_of r)) old new v
+  served-by : (l : Loaded) (bs : Bytes) (unread : Bool) → r.no_input ≡ unread → is_bench r.task ≡ false → ReadsImage told_file (Ok l) → ReadsWanted unread told_input (Ok bs) → IsDone r.task (Runs r.task (image_of_loaded l) bs (options_of r)) old new v
       → IsServedWith (Some r) told_file told_input old new v
-  served-runs l bs reads n h k d =
+  served-by l bs true n reads h k d =
+      let none : with_input (image_of_loaded l) r (told_bytes told_input) ≡ Runs r.task (image_of_loaded l) bs (options_of r) = rw (n, k) refl in
+      served-plan r told_file told_input old new v (Runs r.task (image_of_loaded l) bs (options_of r)) h.0 (told_bytes told_input) h.1 (told_are told_input)
+      (reads_image r h.0 (told_bytes told_input) (Ok (image_of_loaded l)) reads h.2 ∙ none) d
+  served-by l bs false n reads h k d =
       let short : nat_lt input_limit (length bs) ≡ false = grind (arith, nat_tests) in
       let all : with_input (image_of_loaded l) r bs ≡ Runs r.task (image_of_loaded l) bs (options_of r) = rw (n, short) refl in
       served-plan r told_file told_input old new v (Runs r.task (image_of_loaded l) bs (options_of r)) h.0 bs h.1 k.1 (reads_image r h.0 bs (Ok (image_of_loaded l)) reads h.2 ∙ all) d
+
+  -- the guest ran with the input that was read, or without input
+  pub served-runs : (l : Loaded) (bs : Bytes) → is_bench r.task ≡ false → ReadsImage told_file (Ok l) → ReadsWanted r.no_input told_input (Ok bs) → IsDone r.task (Runs r.task (image_of_loaded l) bs (options_of r)) old new v
+      → IsServedWith (Some r) told_file told_input old new v
+  served-runs l bs reads h k d = served-by l bs r.no_input refl reads h k d
 
   -- the bench was done
   pub served-bench : (number : ℕ) → r.task ≡ Bench number → IsDone (Bench number) (bench_plan number (options_of r)) old new v → IsServedWith (Some r) told_file told_input old new v
@@ -207,8 +245,8 @@ early-input told WriteFault h e = e
 early-input told NoMemory h e = e
 
 -- a refused input is none of them
-pub late-input : (told : Option (List ℕ)) (a : Answer) (v : Served) → ReadsInput told (Err a) → v ≡ plainly a → IsRefusedEarly v.answer → ⊥
-late-input told a v h e early = early-input told a h (subst (λ (x : Served). IsRefusedEarly x.answer) e early)
+pub late-input : (unread : Bool) (told : Option (List ℕ)) (a : Answer) (v : Served) → ReadsWanted unread told (Err a) → v ≡ plainly a → IsRefusedEarly v.answer → ⊥
+late-input unread told a v h e early = early-input told a (wanted_by unread told a h).1 (subst (λ (x : Served). IsRefusedEarly x.answer) e early)
 
 early-runs : (task : Task) (i : Image) (input : List ℕ) (o : Options) (entries : List Entry) (old new : Sinks) (a : Answer) → Serves (Runs task i input o) entries old new a → IsRefusedEarly a → ⊥
 early-runs task i input o entries old new Usage h e = (let is = h.0 in absurd (cc))
@@ -230,6 +268,23 @@ late-runs task i input o old new v d e = early-runs task i input o d.entries old
 -- a read fault of the image, or of the input, is counted
 pub counted-read : (T : Type 0) (old new : ℕ) (a : Answer) (v : Served) → CountsReadFault {T = T} old new (Err a) → v ≡ plainly a → v.answer ≡ ReadFault → Rose old new
 counted-read T old new a v h e is = subst (λ x. CountsReadFault {T = T} old new (Err x)) (sym (ap (λ (x : Served). x.answer) e) ∙ is) h
+
+calm-read_by : (T : Type 0) (old new : ℕ) (a : Answer) → CountsReadFault {T = T} old new (Err a) → (a ≡ ReadFault → ⊥) → new ≡ old
+calm-read_by T old new ReadFault h other = absurd (other refl)
+calm-read_by T old new (Exited c) h other = h
+calm-read_by T old new (Trapped t pc) h other = h
+calm-read_by T old new Spent h other = h
+calm-read_by T old new Shown h other = h
+calm-read_by T old new Usage h other = h
+calm-read_by T old new ImageTooLong h other = h
+calm-read_by T old new (BadImage f) h other = h
+calm-read_by T old new InputTooLong h other = h
+calm-read_by T old new WriteFault h other = h
+calm-read_by T old new NoMemory h other = h
+
+-- any other refusal of the image, or of the input, comes without a read fault
+pub calm-read : (T : Type 0) (old new : ℕ) (a : Answer) (v : Served) → CountsReadFault {T = T} old new (Err a) → v ≡ plainly a → (v.answer ≡ ReadFault → ⊥) → new ≡ old
+calm-read T old new a v h e other = calm-read_by T old new a h (λ is. other (ap (λ (x : Served). x.answer) e ∙ is))
 
 -- ---- an answer whose line could not be made
 

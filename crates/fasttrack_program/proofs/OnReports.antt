@@ -26,10 +26,15 @@ use Rattle.report_text.specs.Reports.{bench_lines}
 use Rattle.guest_streams.specs.GuestStreams.{end_of, Sinks, GetsAll, GetsPart, IsNext, FailsAt, StopsShort}
 use Rattle.fasttrack_program.specs.Reports.{report, told_verdict, told_row, told_ledger, program_report, bench_report}
 use Rattle.fasttrack_program.specs.TextOnSink.{StoppedInText, WritesText}
+use Rattle.program_words.specs.declared.request.Task.{Task}
+use Rattle.fasttrack_program.specs.declared.options.Options.{Options}
+use Rattle.fasttrack_program.specs.Plan.{Runs}
+use Rattle.fasttrack_program.specs.Serving.{answer_of_fault}
+use Rattle.fasttrack_program.specs.TopCall.{task_output, Serves}
+use Rattle.speculation.specs.declared.history.Entry.{Entry}
 use Rattle.guest_streams.specs.declared.fault.OutputFault.{OutputFault}
 use Rattle.guest_streams.specs.declared.fault.OutputFault.TheVariants.{Write, NoMemory}
 use Rattle.guest_streams.proofs.OnStreams.{stream_bytes-own_1, marked-append, IsNext-marked, Gets-on_out}
-use Rattle.fasttrack_program.proofs.OnTexts.{WritesText-as}
 
 -- ---- the rows of the theory, as they are told
 
@@ -103,34 +108,31 @@ parts_marked got rest text e = sym (marked-append 1 got rest) ∙ ap (marked 1) 
 pub text_shown : (s : Sinks) (told : Option (List ℕ)) (faults : ℕ) (text : List ℕ) → Appends s.out told text → faults ≡ s.out_faults → GetsAll s (record s { out = told; out_faults = faults }) (marked 1 text)
 text_shown s told faults text a c = record { gets = Gets-on_out s told faults text a; calm = record { on_out = c; on_notes = refl } }
 
--- the fault of a text by another name
-as_fault : (s : Sinks) (told : Option (List ℕ)) (faults : ℕ) (said text : List ℕ) (e f : OutputFault) → said ≡ text → e ≡ f
-    → WritesText {T = Unit {0}} s.out told s.out_faults faults said (Err e) → WritesText {T = Unit {0}} s.out told s.out_faults faults text (Err f)
-as_fault s told faults said text e f is why w = WritesText-as {T = Unit {0}} s.out told s.out_faults faults said text (Err f) is (subst (λ k. WritesText {T = Unit {0}} s.out told s.out_faults faults said (Err k)) why w)
+pub text_stops : (s : Sinks) (told : Option (List ℕ)) (faults : ℕ) (text : List ℕ)
+    → WritesText {T = Unit {0}} s.out told s.out_faults faults text (Err Write) → StopsShort s (record s { out = told; out_faults = faults }) (marked 1 text)
+text_stops s told faults text h = record {
+  got = marked 1 h.0.beginning.got;
+  rest = marked 1 h.0.beginning.rest;
+  parts = parts_marked h.0.beginning.got h.0.beginning.rest text h.0.beginning.parts;
+  gets = Gets-on_out s told faults h.0.beginning.got h.0.beginning.appends;
+  fails = inl (h.1, refl, IsNext-marked 1 h.0.beginning.rest h.0.more);
+}
 
-pub text_stops : (s : Sinks) (told : Option (List ℕ)) (faults : ℕ) (said text : List ℕ) (e : OutputFault) → said ≡ text → e ≡ Write
-    → WritesText {T = Unit {0}} s.out told s.out_faults faults said (Err e) → StopsShort s (record s { out = told; out_faults = faults }) (marked 1 text)
-text_stops s told faults said text e is why w =
-    let h = as_fault s told faults said text e Write is why w in
-    record {
-      got = marked 1 h.0.beginning.got;
-      rest = marked 1 h.0.beginning.rest;
-      parts = parts_marked h.0.beginning.got h.0.beginning.rest text h.0.beginning.parts;
-      gets = Gets-on_out s told faults h.0.beginning.got h.0.beginning.appends;
-      fails = inl (h.1, refl, IsNext-marked 1 h.0.beginning.rest h.0.more);
-    }
+pub text_within : (s : Sinks) (told : Option (List ℕ)) (faults : ℕ) (text : List ℕ)
+    → WritesText {T = Unit {0}} s.out told s.out_faults faults text (Err NoMemory) → GetsPart s (record s { out = told; out_faults = faults }) (marked 1 text)
+text_within s told faults text h = record {
+  got = marked 1 h.0.got;
+  rest = marked 1 h.0.rest;
+  parts = parts_marked h.0.got h.0.rest text h.0.parts;
+  gets = Gets-on_out s told faults h.0.got h.0.appends;
+  calm = record { on_out = h.1; on_notes = refl };
+}
 
-pub text_within : (s : Sinks) (told : Option (List ℕ)) (faults : ℕ) (said text : List ℕ) (e : OutputFault) → said ≡ text → e ≡ NoMemory
-    → WritesText {T = Unit {0}} s.out told s.out_faults faults said (Err e) → GetsPart s (record s { out = told; out_faults = faults }) (marked 1 text)
-text_within s told faults said text e is why w =
-    let h = as_fault s told faults said text e NoMemory is why w in
-    record {
-      got = marked 1 h.0.got;
-      rest = marked 1 h.0.rest;
-      parts = parts_marked h.0.got h.0.rest text h.0.parts;
-      gets = Gets-on_out s told faults h.0.got h.0.appends;
-      calm = record { on_out = h.1; on_notes = refl };
-    }
+-- a report that could not be written whole
+pub report_fails : (task : Task) (i : Image) (input : List ℕ) (o : Options) (entries : List Entry) (s : Sinks) (told : Option (List ℕ)) (faults : ℕ) (text : List ℕ) (e : OutputFault) → task_output task i input o entries ≡ marked 1 text
+    → WritesText {T = Unit {0}} s.out told s.out_faults faults text (Err e) → Serves (Runs task i input o) entries s (record s { out = told; out_faults = faults }) (answer_of_fault e)
+report_fails task i input o entries s told faults text Write is w = subst (StopsShort s (record s { out = told; out_faults = faults })) (sym is) (text_stops s told faults text w)
+report_fails task i input o entries s told faults text NoMemory is w = subst (GetsPart s (record s { out = told; out_faults = faults })) (sym is) (text_within s told faults text w)
 
 -- ---- what is left on `out` where a text stops short
 

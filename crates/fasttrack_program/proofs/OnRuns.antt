@@ -1,5 +1,5 @@
 -- A run with tracks and the texts behind its output, and the summary of a bench
-use Rattle.std.proofs.Common.{◌≡◌, ℕ, ◌^◌, ◌<◌, ◌≤◌, List, [], ◌∷◌, ◌++◌, length, Option, Some, Ok, Err, inl, inr, refl, sym, ap, ◌∙◌, subst, append_assoc, append-nil, arith}
+use Rattle.std.proofs.Common.{◌≡◌, ℕ, ◌^◌, ◌<◌, ◌≤◌, List, [], ◌∷◌, ◌++◌, length, Option, Some, None, Ok, Err, inl, inr, refl, sym, ap, ◌∙◌, subst, append_assoc, append-nil, arith}
 use Rattle.std.specs.Prelude.{All, if◌then◌else◌}
 use Rattle.std.specs.Io.KnownBytes.{Appends}
 use Rattle.speculation.specs.declared.history.Entry.{Entry}
@@ -8,7 +8,7 @@ use Rattle.speculation.specs.Record.{alone, output_of}
 use Rattle.speculation.specs.Ledger.{originals}
 use Rattle.speculation.specs.Serial.{IsSerial}
 use Rattle.speculation.proofs.Records.{output-alone}
-use Rattle.guest_model.specs.Image.{image, program_alone, start_of}
+use Rattle.guest_model.specs.Image.{Image, image, program_alone, start_of}
 use Rattle.guest_model.specs.Rv32.{rv32}
 use Rattle.guest_model.specs.declared.end.End.{End}
 use Rattle.guest_model.specs.declared.end.End.TheVariants as E
@@ -22,6 +22,7 @@ use Rattle.region_ledger.specs.Ledger.{ledger_rows, totals_of, SavesAtMostAll}
 use Rattle.region_ledger.specs.declared.finished.Finished.{Finished}
 use Rattle.report_text.specs.Reports.{bench_lines}
 use Rattle.guest_streams.specs.GuestStreams.{Sinks, Gets, GetsAll, GetsPart, StopsShort, FailsAt, IsNext}
+use Rattle.guest_streams.specs.declared.fault.OutputFault.{OutputFault}
 use Rattle.guest_streams.specs.declared.fault.OutputFault.TheVariants.{Write, NoMemory}
 use Rattle.guest_streams.proofs.OnStreams.{Gets-nothing, IsCalm-refl, marked-append, IsNext-marked, WritesPiece-on_notes, GetsAll-more, StopsShort-amid, GetsPart-more}
 use Rattle.track_board.specs.Value.{Posted}
@@ -29,19 +30,20 @@ use Rattle.track_board.specs.declared.outcome.Outcome.{Outcome}
 use Rattle.worker_gate.specs.Conducting.{IsWhole, IsSameRun, Conducts, released_total}
 use Rattle.worker_gate.specs.declared.conducted.Conducted.{Conducted}
 use Rattle.worker_gate.specs.declared.conducted.Conducted.TheVariants as C
+use Rattle.program_words.specs.declared.request.Task.{Task}
 use Rattle.program_words.specs.declared.request.Task.TheVariants.{Run, Bench}
 use Rattle.fasttrack_program.specs.declared.options.Options.{Options}
 use Rattle.fasttrack_program.specs.declared.answer.Answer.TheVariants as A
 use Rattle.fasttrack_program.specs.declared.served.Served.{Served}
 use Rattle.fasttrack_program.specs.Plan.{Runs, refused_file, bench_regions, bench_plan, with_bench}
 use Rattle.fasttrack_program.specs.Reports.{bench_report, journal_text, asked_texts}
-use Rattle.fasttrack_program.specs.Serving.{answer_of, plainly, handed, IsDone}
+use Rattle.fasttrack_program.specs.Serving.{answer_of, answer_of_fault, plainly, handed, IsDone}
 use Rattle.fasttrack_program.specs.TextOnSink.{WritesText}
 use Rattle.fasttrack_program.specs.TopCall.{settings_of, texts_behind, Serves}
 use Rattle.fasttrack_program.specs.Tracks.{board_for, RunsTracks}
-use Rattle.fasttrack_program.proofs.OnHistories.{history_of_run, history_of_bench}
+use Rattle.fasttrack_program.proofs.OnHistories.{history_of_run, history_of_bench, unhanded}
 use Rattle.fasttrack_program.proofs.OnPlans.{StaysWithin-refl, serves-end}
-use Rattle.fasttrack_program.proofs.OnReports.{TellsProgram, report-is, summary-is, rows-inside, rows-save, text_shown, text_stops, text_within}
+use Rattle.fasttrack_program.proofs.OnReports.{TellsProgram, report-is, summary-is, rows-inside, rows-save, text_shown, report_fails}
 
 -- ---- a text on `notes`, behind an output
 
@@ -88,6 +90,17 @@ module _ (s t : Sinks) (told : Option (List ℕ)) (faults : ℕ) (output : List 
         calm = record { on_out = refl; on_notes = w.1 };
       } in
       GetsPart-more s t (noted t told faults) output (marked 2 text) first piece
+
+-- the texts behind the output of a run could not be written whole
+behind_fault : (s t : Sinks) (told : Option (List ℕ)) (faults : ℕ) (input : List ℕ) (o : Options) (entries : List Entry) (i : Image) → GetsAll s t (output_of (program_alone i input o.budget)) → (e : OutputFault)
+    → WritesText {T = Unit {0}} t.notes told t.notes_faults faults (texts_behind i input o entries) (Err e) → Serves (Runs Run i input o) entries s (noted t told faults) (answer_of_fault e)
+behind_fault s t told faults input o entries i got Write w = behind_stops s t told faults (output_of (program_alone i input o.budget)) (texts_behind i input o entries) got w
+behind_fault s t told faults input o entries i got NoMemory w = behind_within s t told faults (output_of (program_alone i input o.budget)) (texts_behind i input o entries) got w
+
+-- no history is handed out then
+not_handed : (task : Task) (e : OutputFault) (entries : List Entry) → None ≡ handed task (answer_of_fault e) entries
+not_handed task Write entries = rw (unhanded task A.WriteFault refl) refl
+not_handed task NoMemory entries = rw (unhanded task A.NoMemory refl) refl
 
 -- an output that broke off, with more behind it
 IsNext-longer : (stream : ℕ) (rest more : List Mark) → IsNext stream rest → IsNext stream (rest ++ more)
@@ -149,11 +162,11 @@ guest_of l input = start-is-guest input l.entry l.areas l.heap l.layout
 
 -- ---- a run
 
-module _ (l : Loaded) (input : List ℕ) (o : Options) (old : Sinks) where
+module _ (l : Loaded) (input : List ℕ) (o : Options) (some : 1 ≤ o.tracks) (old : Sinks) where
   -- a sink failed
   pub run-fails : (mid : Sinks) → StopsShort old mid (output_of (program_alone (image_of_loaded l) input o.budget)) → IsDone Run (Runs Run (image_of_loaded l) input o) old mid (plainly A.WriteFault)
   run-fails mid h =
-      let history = history_of_run input (image_of_loaded l) o (guest_of l input) in
+      let history = history_of_run input (image_of_loaded l) o some (guest_of l input) in
       record {
         entries = history.0;
         history = history.1;
@@ -164,7 +177,7 @@ module _ (l : Loaded) (input : List ℕ) (o : Options) (old : Sinks) where
   -- memory ran out
   pub run-breaks : (mid : Sinks) → GetsPart old mid (output_of (program_alone (image_of_loaded l) input o.budget)) → IsDone Run (Runs Run (image_of_loaded l) input o) old mid (plainly A.NoMemory)
   run-breaks mid h =
-      let history = history_of_run input (image_of_loaded l) o (guest_of l input) in
+      let history = history_of_run input (image_of_loaded l) o some (guest_of l input) in
       record {
         entries = history.0;
         history = history.1;
@@ -213,37 +226,22 @@ module _ (l : Loaded) (input : List ℕ) (o : Options) (entries : List Entry) (o
         let tells = tells-program in
         record {
           entries = outcome.entries;
-          history = λ some. serial-told;
+          history = serial-told;
           serves = serves-end Run (image_of_loaded l) input o outcome.entries old (noted mid told faults) f.end tt
               (behind_all old mid told faults (output_of (program_alone (image_of_loaded l) input o.budget)) texts got written) tells.end;
           handed = handed-run f.end outcome.entries;
         }
 
-    -- notes failed
-    pub run-stops : WritesText {T = Unit {0}} mid.notes told mid.notes_faults faults (asked_texts o outcome.rows f outcome.entries) (Err Write)
-        → IsDone Run (Runs Run (image_of_loaded l) input o) old (noted mid told faults) (plainly A.WriteFault)
-    run-stops w =
-        let texts = texts_behind (image_of_loaded l) input o outcome.entries in
-        record {
-          entries = outcome.entries;
-          history = λ some. serial-told;
-          serves = behind_stops old mid told faults (output_of (program_alone (image_of_loaded l) input o.budget)) texts got
-              (subst (λ text. WritesText {T = Unit {0}} mid.notes told mid.notes_faults faults text (Err Write)) texts-are w);
-          handed = refl;
-        }
-
-    -- there was no memory for a line
-    pub run-lacks : WritesText {T = Unit {0}} mid.notes told mid.notes_faults faults (asked_texts o outcome.rows f outcome.entries) (Err NoMemory)
-        → IsDone Run (Runs Run (image_of_loaded l) input o) old (noted mid told faults) (plainly A.NoMemory)
-    run-lacks w =
-        let texts = texts_behind (image_of_loaded l) input o outcome.entries in
-        record {
-          entries = outcome.entries;
-          history = λ some. serial-told;
-          serves = behind_within old mid told faults (output_of (program_alone (image_of_loaded l) input o.budget)) texts got
-              (subst (λ text. WritesText {T = Unit {0}} mid.notes told mid.notes_faults faults text (Err NoMemory)) texts-are w);
-          handed = refl;
-        }
+    -- they were not written whole
+    pub run-fault : (e : OutputFault) → WritesText {T = Unit {0}} mid.notes told mid.notes_faults faults (asked_texts o outcome.rows f outcome.entries) (Err e)
+        → IsDone Run (Runs Run (image_of_loaded l) input o) old (noted mid told faults) (plainly (answer_of_fault e))
+    run-fault e w = record {
+      entries = outcome.entries;
+      history = serial-told;
+      serves = behind_fault old mid told faults input o outcome.entries (image_of_loaded l) got e
+          (subst (λ text. WritesText {T = Unit {0}} mid.notes told mid.notes_faults faults text (Err e)) texts-are w);
+      handed = not_handed Run e outcome.entries;
+    }
 
   -- ---- a bench
 
@@ -267,8 +265,8 @@ module _ (l : Loaded) (input : List ℕ) (o : Options) (entries : List Entry) (o
         summary-is (image_of_loaded l) input o.budget outcome.rows f tells-program number (released_total outcome.entries) total-is
         ∙ ap (λ xs. bench_report number (image_of_loaded l) xs o.budget) none
 
-    bench-history : 1 ≤ o.tracks → IsSerial (rv32 []) (settings_of o) (start_of (image_of_loaded l)) outcome.entries
-    bench-history some = subst (λ xs. IsSerial (rv32 xs) (settings_of o) (start_of (image_of_loaded l)) outcome.entries) none serial-told
+    bench-history : IsSerial (rv32 []) (settings_of o) (start_of (image_of_loaded l)) outcome.entries
+    bench-history = subst (λ xs. IsSerial (rv32 xs) (settings_of o) (start_of (image_of_loaded l)) outcome.entries) none serial-told
 
     -- what is written on `out` of the summary
     done-bench : (old new : Sinks) (v : Served) → Serves (Runs (Bench number) (image_of_loaded l) [] o) outcome.entries old new v.answer → v.history ≡ handed (Bench number) v.answer outcome.entries
@@ -287,17 +285,13 @@ module _ (l : Loaded) (input : List ℕ) (o : Options) (entries : List Entry) (o
           done-bench old (record old { out = told; out_faults = faults }) (record { answer = A.Shown; history = Some outcome.entries })
           (tt, text_shown old told faults (bench_report number (image_of_loaded l) [] o.budget) written.0 written.1) refl
 
-      pub bench-stops : WritesText {T = Unit {0}} old.out told old.out_faults faults summary (Err Write)
-          → IsDone (Bench number) (bench_plan number o) old (record old { out = told; out_faults = faults }) (plainly A.WriteFault)
-      bench-stops w =
-          done-bench old (record old { out = told; out_faults = faults }) (plainly A.WriteFault)
-          (text_stops old told faults summary (bench_report number (image_of_loaded l) [] o.budget) Write summary-told refl w) refl
-
-      pub bench-lacks : WritesText {T = Unit {0}} old.out told old.out_faults faults summary (Err NoMemory)
-          → IsDone (Bench number) (bench_plan number o) old (record old { out = told; out_faults = faults }) (plainly A.NoMemory)
-      bench-lacks w =
-          done-bench old (record old { out = told; out_faults = faults }) (plainly A.NoMemory)
-          (text_within old told faults summary (bench_report number (image_of_loaded l) [] o.budget) NoMemory summary-told refl w) refl
+      pub bench-fault : (e : OutputFault) → WritesText {T = Unit {0}} old.out told old.out_faults faults summary (Err e)
+          → IsDone (Bench number) (bench_plan number o) old (record old { out = told; out_faults = faults }) (plainly (answer_of_fault e))
+      bench-fault e w =
+          done-bench old (record old { out = told; out_faults = faults }) (plainly (answer_of_fault e))
+          (report_fails (Bench number) (image_of_loaded l) [] o outcome.entries old told faults (bench_report number (image_of_loaded l) [] o.budget) e refl
+          (subst (λ text. WritesText {T = Unit {0}} old.out told old.out_faults faults text (Err e)) summary-told w))
+          (not_handed (Bench number) e outcome.entries)
 
 -- ---- a bench that was not run, or not to its end
 
@@ -310,7 +304,7 @@ pub never-fails : (old new : Sinks) (output : List Mark) → old.out_faults ≡ 
 never-fails old new output a b c d h = no-faults old new h.rest a b c d h.fails
 
 -- there was no memory for a bench, or it did not come to its end
-pub bench-broken : (number : ℕ) (o : Options) (s : Sinks) → IsDone (Bench number) (bench_plan number o) s s (plainly A.NoMemory)
-bench-broken number o s =
-    let history = history_of_bench number o in
+pub bench-broken : (number : ℕ) (o : Options) → 1 ≤ o.tracks → (s : Sinks) → IsDone (Bench number) (bench_plan number o) s s (plainly A.NoMemory)
+bench-broken number o some s =
+    let history = history_of_bench number o some in
     record { entries = history.0; history = history.1; serves = StaysWithin-refl (bench_plan number o) history.0 s; handed = refl }

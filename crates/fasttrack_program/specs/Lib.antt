@@ -1,4 +1,5 @@
 pub mod AnswerLine
+pub mod Completeness
 pub mod FaultTexts
 pub mod Plan
 pub mod Reading

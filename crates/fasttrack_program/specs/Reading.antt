@@ -1,5 +1,5 @@
 -- What the reading of the image and of the input answers
-use Rattle.std.specs.Prelude.{◌≡◌, ℕ, ◌<◌, ◌≤◌, List, length, Option, Some, IfSome, Result, Ok, Err}
+use Rattle.std.specs.Prelude.{◌≡◌, ℕ, ◌<◌, ◌≤◌, Bool, true, false, List, [], length, Option, Some, IfSome, Result, Ok, Err}
 use Rattle.host_io.specs.Faults.{Rose}
 use Rattle.elf32_loader.specs.FaultOf.{fault_of}
 use Rattle.elf32_loader.specs.LoadedImage.{image_of_loaded}
@@ -31,7 +31,17 @@ ReadsInput told (Err ReadFault) = Unit {0}
 ReadsInput told (Err NoMemory) = Unit {0}
 ReadsInput told (Err _) = ⊥
 
+-- the same, or no bytes where the input is to be left unread
+abbrev pub ReadsWanted : Bool → Option (List ℕ) → Result Bytes Answer → Type 0
+ReadsWanted false told r = ReadsInput told r
+ReadsWanted true told (Ok bs) = bs ≡ []
+ReadsWanted true told (Err _) = ⊥
+
 -- a read fault is counted, and nothing else is
 abbrev pub CountsReadFault : {T : Type 0} → ℕ → ℕ → Result T Answer → Type 0
 CountsReadFault old new (Err ReadFault) = Rose old new
 CountsReadFault old new _ = new ≡ old
+
+-- but for ReadFault, no read failed: the counts of the files and of the input are as before
+abbrev pub ReadsWithoutFault : (files files' input input' : ℕ) → Answer → Type 0
+ReadsWithoutFault files files' input input' answer = (answer ≡ ReadFault → ⊥) → (files' ≡ files) × (input' ≡ input)

@@ -4,33 +4,26 @@ use Rattle.speculation.specs.declared.history.Entry.{Entry}
 use Rattle.guest_model.specs.declared.end.End.{End}
 use Rattle.guest_model.specs.declared.end.End.TheVariants as E
 use Rattle.guest_streams.specs.GuestStreams.{Sinks}
+use Rattle.guest_streams.specs.declared.fault.OutputFault.{OutputFault}
+use Rattle.guest_streams.specs.declared.fault.OutputFault.TheVariants as F
 use Rattle.program_words.specs.CommandLine.{Request}
-use Rattle.program_words.specs.declared.request.Request.{Request as GivenRequest}
 use Rattle.program_words.specs.declared.request.Task.{Task}
 use Rattle.fasttrack_program.specs.Plan.{Plan}
 use Rattle.fasttrack_program.specs.TopCall.{HasHistoryOf, Serves, IsServed, hands_out}
 use Rattle.fasttrack_program.specs.declared.answer.Answer.{Answer}
-use Rattle.fasttrack_program.specs.declared.answer.Answer.TheVariants.{Exited, Trapped, Spent, Shown}
+use Rattle.fasttrack_program.specs.declared.answer.Answer.TheVariants.{Exited, Trapped, Spent, Shown, WriteFault, NoMemory}
 use Rattle.fasttrack_program.specs.declared.served.Served.{Served}
-
--- a request as the definitions speak of it
-abbrev pub asked : GivenRequest → Request
-asked r = record {
-  task = r.task;
-  image = r.image.now;
-  tracks = r.tracks;
-  workers = r.workers;
-  budget = r.budget;
-  no_input = r.no_input;
-  report = r.report;
-  journal = r.journal;
-}
 
 -- the answer of a task that ends as the guest does
 abbrev pub answer_of : End → Answer
 answer_of (E.Exit code) = Exited code
 answer_of (E.Trap trap pc) = Trapped trap pc
 answer_of E.Spent = Spent
+
+-- the answer of a task whose output could not be written
+abbrev pub answer_of_fault : OutputFault → Answer
+answer_of_fault F.Write = WriteFault
+answer_of_fault F.NoMemory = NoMemory
 
 -- an answer without a history
 abbrev pub plainly : Answer → Served

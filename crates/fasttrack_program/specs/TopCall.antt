@@ -1,5 +1,5 @@
 -- What a call of the program answers, what it leaves on `out` and `notes`, and which history it hands out
-use Rattle.std.specs.Prelude.{◌≡◌, ℕ, ◌≤◌, Bool, true, false, ◌&&◌, nat_le, if◌then◌else◌, List, [], ◌∷◌, ◌++◌, Option, Some, None, Ok, ◌⊎◌}
+use Rattle.std.specs.Prelude.{◌≡◌, ℕ, Bool, true, false, ◌&&◌, nat_le, if◌then◌else◌, List, [], ◌∷◌, ◌++◌, Option, Some, None, Ok, ◌⊎◌}
 use Rattle.speculation.specs.declared.history.Entry.{Entry}
 use Rattle.speculation.specs.declared.history.Settings.{Settings}
 use Rattle.speculation.specs.Record.{output_of}
@@ -44,12 +44,12 @@ task_output Run i input o entries = output_of (program_alone i input o.budget) +
 task_output Trial i input o entries = marked 1 (program_report i input o.budget)
 task_output (Bench number) i input o entries = marked 1 (bench_report number i input o.budget)
 
--- the entries are the serial history of the guest, where the task has one; at least one region may be open
+-- the entries are the serial history of the guest, where the task has one
 abbrev pub HasHistory : Task → Image → List ℕ → Options → List Entry → Type 0
 HasHistory Alone i input o entries = entries ≡ []
-HasHistory Run i input o entries = 1 ≤ o.tracks → IsSerial (rv32 input) (settings_of o) (start_of i) entries
+HasHistory Run i input o entries = IsSerial (rv32 input) (settings_of o) (start_of i) entries
 HasHistory Trial i input o entries = entries ≡ []
-HasHistory (Bench number) i input o entries = 1 ≤ o.tracks → IsSerial (rv32 input) (settings_of o) (start_of i) entries
+HasHistory (Bench number) i input o entries = IsSerial (rv32 input) (settings_of o) (start_of i) entries
 
 -- these tasks end as the guest does
 abbrev pub EndsAsGuest : Task → Type 0
@@ -192,8 +192,9 @@ abbrev pub needs_workers : Option Request → Bool
 needs_workers None = false
 needs_workers (Some r) = has_tracks r.task && nat_le 1 r.workers
 
--- The call served an answer, told it by its line on notes, and gives it, or WriteFault where the line of a guest's end
--- could not be written. A run that completed hands out its history.
+-- What the call answers and leaves. First `said` was served, which leaves the sinks as in `between`; then its line was
+-- written on notes. The result is `said`, or WriteFault where `said` is a guest's end and its line could not be written. The
+-- history of a run or of a bench that was completed is handed out.
 pub record IsAnswered (request : Option Request) (told_file told_input : Option (List ℕ)) (old new : Sinks) (histories histories' : List (List Entry)) (result : Answer) : Type 0 where
   pub said : Answer
   pub between : Sinks

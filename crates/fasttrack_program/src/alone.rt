@@ -48,7 +48,12 @@ pub fn run_alone<O: Sink, N: Sink>(
     Ok(End::Spent)
 }
 
-/// Writes the `count` bytes of `memory` from `at` on to the sink of their stream. `buffer` is room for them.
+/// Writes the `count` bytes of `memory` from `at` on to the sink of their stream. `buffer` is room for them. It is cold
+/// because few instructions write, and so stays out of the loop over instructions.
+///
+/// # Errors
+/// `Write` where the sink failed, which has a beginning of the bytes then, and `NoMemory` where there was no room for them
+/// in `buffer`; nothing is written then.
 #[cold]
 fn pass_on<O: Sink, N: Sink>(
     memory: &FlatMemory,
@@ -76,6 +81,9 @@ fn pass_on<O: Sink, N: Sink>(
 }
 
 /// Makes `buffer` the `count` bytes of `memory` from `at` on.
+///
+/// # Errors
+/// `NoMemory` where there is no room for them.
 fn load_piece(
     memory: &FlatMemory,
     at: u32,

@@ -1,11 +1,12 @@
 //! What the program answers, and its exit status.
 
 ghost use Rattle.std.specs.Prelude.{◌≡◌};
-ghost use Rattle.fasttrack_program.specs.Serving.{answer_of};
+ghost use Rattle.fasttrack_program.specs.Serving.{answer_of, answer_of_fault};
 ghost use Rattle.fasttrack_program.specs.Status.{status_of};
 
 use elf32_loader::ImageFault;
 use guest_model::{End, Trap};
+use guest_streams::OutputFault;
 
 /// How a call of the program ended.
 #[derive(Debug, Clone, Copy, PartialEq, Eq)]
@@ -61,5 +62,15 @@ pub fn answer_of(end: End) -> Answer
         End::Exit(code) => Answer::Exited(code),
         End::Trap(trap, pc) => Answer::Trapped(trap, pc),
         End::Spent => Answer::Spent,
+    }
+}
+
+/// The answer of a task whose output could not be written.
+pub fn answer_of_fault(fault: OutputFault) -> Answer
+    ensures { result ≡ answer_of_fault fault }
+{
+    match fault {
+        OutputFault::Write => Answer::WriteFault,
+        OutputFault::NoMemory => Answer::NoMemory,
     }
 }

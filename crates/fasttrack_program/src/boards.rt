@@ -1,17 +1,19 @@
 //! Runs of an image with tracks.
 
-ghost use Rattle.std.specs.Prelude.{◌≡◌, [], IfOk};
+ghost use Rattle.std.specs.Prelude.{◌≡◌, List, [], IfOk, IfSome};
+ghost use Rattle.speculation.specs.declared.history.Entry.{Entry};
 ghost use Rattle.track_board.specs.Value.{IsSettings};
+ghost use Rattle.worker_gate.specs.Conducting.{IsWhole};
 ghost use Rattle.fasttrack_program.specs.TopCall.{settings_of};
 ghost use Rattle.fasttrack_program.specs.Tracks.{board_for, RunsTracks};
 
 use crate::options::Options;
 use elf32_loader::Loaded;
 use guest_model::{Bytes, NoMemory};
-use host_io::Sink;
+use host_io::{CountSink, Sink};
 use std::alloc::Global;
 use std::sync::Arc;
-use track_board::{Board, Settings};
+use track_board::{Board, Outcome, Settings};
 use worker_gate::{Conducted, conduct_serial};
 
 /// Runs the guest of an image with tracks on one thread, `out` for its stream 1 and `notes` for its stream 2.
@@ -32,6 +34,27 @@ pub fn run_tracks<O: Sink, N: Sink>(
     match make_board(alloc, loaded, input, options) {
         Ok(mut board) => conduct_serial(&mut board, out, notes),
         Err(NoMemory) => Conducted::NoMemory,
+    }
+}
+
+/// Runs the guest of an image with tracks on one thread, without input. What it writes is counted and dropped. None where
+/// memory ran out.
+pub fn run_counted(alloc: Global, loaded: &Loaded, options: &Options) -> Option<Outcome>
+    requires { IsSettings (settings_of options.now) }
+    ensures { IfSome result (λ outcome. (entries : List Entry) × IsWhole (board_for loaded.now [] options.now entries) outcome) }
+{
+    match run_tracks(
+        alloc,
+        loaded,
+        Bytes::new(alloc),
+        options,
+        &mut CountSink::new(),
+        &mut CountSink::new(),
+    ) {
+        Conducted::Done(outcome) => Some(outcome),
+        // A sink that counts doesn't fail.
+        Conducted::WriteFault => unreachable!(),
+        Conducted::NoMemory => None,
     }
 }
 

@@ -38,6 +38,7 @@ impl Histories {
         }
     }
 
+    /// The histories, the first that was handed out first.
     pub fn as_slice(&self) -> &[Entries]
         ensures { result.now ≡ self.now }
     {

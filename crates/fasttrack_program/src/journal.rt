@@ -5,9 +5,8 @@ ghost use Rattle.board_events.specs.Texts.{text_of};
 ghost use Rattle.fasttrack_program.specs.Reports.{journal_text};
 ghost use Rattle.fasttrack_program.specs.TextOnSink.{WritesText};
 
-use crate::report::write_line;
+use crate::texts::write_made;
 use board_events::{Entry, entry_text};
-use guest_model::NoMemory;
 use guest_streams::OutputFault;
 use host_io::Sink;
 use std::alloc::Global;
@@ -34,8 +33,5 @@ pub fn write_journal<N: Sink>(
 fn write_entry<N: Sink>(alloc: Global, entry: &Entry, notes: &mut N) -> Result<(), OutputFault>
     ensures { WritesText (N.contents notes.old) (N.contents notes.new) (N.faults notes.old) (N.faults notes.new) (text_of entry.now ++ 10 ∷ []) result }
 {
-    match entry_text(alloc, entry) {
-        Ok(line) => write_line(line.as_str(), notes),
-        Err(NoMemory) => Err(OutputFault::NoMemory),
-    }
+    write_made(entry_text(alloc, entry), notes)
 }

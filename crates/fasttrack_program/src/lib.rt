@@ -17,6 +17,7 @@ mod served;
 mod show_bench;
 mod show_run;
 mod show_trial;
+mod texts;
 mod top;
 
 pub use answer::{Answer, status};

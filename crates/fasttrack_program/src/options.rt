@@ -1,8 +1,8 @@
 //! How a task is done.
 
 ghost use Rattle.std.specs.Prelude.{◌≡◌};
+ghost use Rattle.program_words.specs.CommandLine.{asked};
 ghost use Rattle.fasttrack_program.specs.Plan.{options_of};
-ghost use Rattle.fasttrack_program.specs.Serving.{asked};
 
 use program_words::Request;
 

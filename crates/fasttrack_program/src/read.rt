@@ -1,7 +1,7 @@
 //! Reading the image and the input.
 
-ghost use Rattle.std.specs.Prelude.{◌≡◌};
-ghost use Rattle.fasttrack_program.specs.Reading.{ReadsImage, ReadsInput, CountsReadFault};
+ghost use Rattle.std.specs.Prelude.{◌≡◌, true};
+ghost use Rattle.fasttrack_program.specs.Reading.{ReadsImage, ReadsInput, ReadsWanted, CountsReadFault};
 
 use crate::answer::Answer;
 use elf32_loader::{ImageFault, Loaded, load};
@@ -40,7 +40,7 @@ pub fn read_image<F: Files>(alloc: Global, files: &mut F, name: &str) -> Result<
 ///
 /// # Errors
 /// `ReadFault` where a read failed, `InputTooLong` where the input is refused, and `NoMemory`.
-pub fn read_input<I: Source>(alloc: Global, input: &mut I) -> Result<Bytes, Answer>
+fn read_input<I: Source>(alloc: Global, input: &mut I) -> Result<Bytes, Answer>
     ensures reads { ReadsInput (I.remaining input.old) result }
     ensures counted { CountsReadFault (I.faults input.old) (I.faults input.new) result }
 {
@@ -50,4 +50,19 @@ pub fn read_input<I: Source>(alloc: Global, input: &mut I) -> Result<Bytes, Answ
         Took::NoMemory => Err(Answer::NoMemory),
         Took::Whole(bytes) => Ok(bytes),
     }
+}
+
+/// Reads the input whole, unless it is to be left unread: it is empty then.
+///
+/// # Errors
+/// `ReadFault` where a read failed, `InputTooLong` where the input is refused, and `NoMemory`.
+pub fn read_wanted<I: Source>(alloc: Global, no_input: bool, input: &mut I) -> Result<Bytes, Answer>
+    ensures reads { ReadsWanted no_input (I.remaining input.old) result }
+    ensures counted { CountsReadFault (I.faults input.old) (I.faults input.new) result }
+    ensures unread { no_input ≡ true → input.new ≡ input.old }
+{
+    if no_input {
+        return Ok(Bytes::new(alloc));
+    }
+    read_input(alloc, input)
 }

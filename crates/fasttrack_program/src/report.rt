@@ -7,9 +7,10 @@ ghost use Rattle.report_text.specs.Reports.{row_line, totals_line, end_line};
 ghost use Rattle.fasttrack_program.specs.Reports.{report, rows_text};
 ghost use Rattle.fasttrack_program.specs.TextOnSink.{WritesText};
 
-use guest_model::{End, NoMemory};
+use crate::texts::write_made;
+use guest_model::End;
 use guest_streams::OutputFault;
-use host_io::{Failed, Sink, write_whole};
+use host_io::Sink;
 use region_ledger::{Finished, Row, Totals, totals};
 use report_text::{end_text, row_text, totals_text};
 use std::alloc::Global;
@@ -48,38 +49,19 @@ fn write_rows<O: Sink>(alloc: Global, rows: &[Row], out: &mut O) -> Result<(), O
 fn write_row<O: Sink>(alloc: Global, row: &Row, out: &mut O) -> Result<(), OutputFault>
     ensures { WritesText (O.contents out.old) (O.contents out.new) (O.faults out.old) (O.faults out.new) (row_line row.now) result }
 {
-    match row_text(alloc, row) {
-        Ok(line) => write_line(line.as_str(), out),
-        Err(NoMemory) => Err(OutputFault::NoMemory),
-    }
+    write_made(row_text(alloc, row), out)
 }
 
 /// Writes the line of the totals.
 fn write_totals<O: Sink>(alloc: Global, totals: &Totals, out: &mut O) -> Result<(), OutputFault>
     ensures { WritesText (O.contents out.old) (O.contents out.new) (O.faults out.old) (O.faults out.new) (totals_line totals.now) result }
 {
-    match totals_text(alloc, totals) {
-        Ok(line) => write_line(line.as_str(), out),
-        Err(NoMemory) => Err(OutputFault::NoMemory),
-    }
+    write_made(totals_text(alloc, totals), out)
 }
 
 /// Writes the line of the end.
 fn write_end<O: Sink>(alloc: Global, end: &End, out: &mut O) -> Result<(), OutputFault>
     ensures { WritesText (O.contents out.old) (O.contents out.new) (O.faults out.old) (O.faults out.new) (end_line end.now) result }
 {
-    match end_text(alloc, end) {
-        Ok(line) => write_line(line.as_str(), out),
-        Err(NoMemory) => Err(OutputFault::NoMemory),
-    }
-}
-
-/// Writes a text whole.
-pub fn write_line<O: Sink>(line: &str, out: &mut O) -> Result<(), OutputFault>
-    ensures { WritesText (O.contents out.old) (O.contents out.new) (O.faults out.old) (O.faults out.new) line.now result }
-{
-    match write_whole(out, line.as_bytes()) {
-        Ok(()) => Ok(()),
-        Err(Failed) => Err(OutputFault::Write),
-    }
+    write_made(end_text(alloc, end), out)
 }

@@ -2,23 +2,24 @@
 
 ghost use Rattle.std.specs.Prelude.{◌≡◌, [], Some, true, false};
 ghost use Rattle.elf32_loader.specs.LoadedImage.{image_of_loaded};
+ghost use Rattle.program_words.specs.CommandLine.{asked};
 ghost use Rattle.program_words.specs.declared.request.Task.TheVariants.{Alone};
 ghost use Rattle.track_board.specs.Value.{IsSettings};
 ghost use Rattle.fasttrack_program.specs.Plan.{Runs, options_of};
-ghost use Rattle.fasttrack_program.specs.Serving.{IsDone, IsServedWith, asked};
+ghost use Rattle.fasttrack_program.specs.Reading.{ReadsWithoutFault};
+ghost use Rattle.fasttrack_program.specs.Serving.{IsDone, IsServedWith};
 ghost use Rattle.fasttrack_program.specs.TopCall.{IsRefusedEarly, ReadFails, Serves, is_bench, settings_of};
 
 use crate::alone::run_alone;
-use crate::answer::{Answer, answer_of};
+use crate::answer::{Answer, answer_of, answer_of_fault};
 use crate::options::{Options, options_in};
-use crate::read::{read_image, read_input};
+use crate::read::{read_image, read_wanted};
 use crate::served::{Served, plain};
 use crate::show_bench::show_bench;
 use crate::show_run::show_run;
 use crate::show_trial::show_trial;
 use elf32_loader::Loaded;
 use guest_model::{Bytes, FlatMemory, Regs, State};
-use guest_streams::OutputFault;
 use host_io::{Files, Sink, Source};
 use program_words::{Request, Task};
 use std::alloc::Global;
@@ -49,8 +50,7 @@ fn run_image<O: Sink, N: Sink>(
     };
     match run_alone(alloc, &mut state, input, options.budget, out, notes) {
         Ok(end) => answer_of(end),
-        Err(OutputFault::Write) => Answer::WriteFault,
-        Err(OutputFault::NoMemory) => Answer::NoMemory,
+        Err(fault) => answer_of_fault(fault),
     }
 }
 
@@ -98,6 +98,7 @@ pub fn serve_request<F: Files, I: Source, O: Sink, N: Sink>(
         result }
     ensures read_fault { result.answer ≡ Answer.ReadFault
         → ReadFails (Some (asked request.now)) (F.contents files.old request.now.image.now) (F.faults files.old) (F.faults files.new) I.faults input.old input.new }
+    ensures counted { ReadsWithoutFault (F.faults files.old) (F.faults files.new) (I.faults input.old) (I.faults input.new) result.answer }
     ensures unread { request.now.no_input ≡ true → input.new ≡ input.old }
     ensures early { IsRefusedEarly result.answer → input.new ≡ input.old }
     ensures bench { is_bench request.now.task ≡ true → (files.new ≡ files.old) × (input.new ≡ input.old) }
@@ -111,18 +112,7 @@ pub fn serve_request<F: Files, I: Source, O: Sink, N: Sink>(
         Ok(loaded) => loaded,
         Err(answer) => return plain(answer),
     };
-    if request.no_input {
-        return do_task(
-            alloc,
-            request.task,
-            &loaded,
-            Bytes::new(alloc),
-            &options,
-            out,
-            notes,
-        );
-    }
-    match read_input(alloc, input) {
+    match read_wanted(alloc, request.no_input, input) {
         Ok(bytes) => do_task(alloc, request.task, &loaded, bytes, &options, out, notes),
         Err(answer) => plain(answer),
     }

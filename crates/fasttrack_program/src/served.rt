@@ -9,6 +9,7 @@ use board_events::Entries;
 /// An answer, and the history that is handed out once its line was told.
 #[derive(Debug, Drop)]
 pub struct Served {
+    /// How the call ends, unless its line can't be told.
     pub answer: Answer,
     /// The history of a run with tracks that completed.
     pub history: Option<Entries>,

@@ -15,21 +15,20 @@ ghost use Rattle.fasttrack_program.specs.Serving.{IsDone};
 ghost use Rattle.fasttrack_program.specs.TextOnSink.{WritesText};
 ghost use Rattle.fasttrack_program.specs.TopCall.{settings_of};
 
-use crate::answer::Answer;
-use crate::boards::run_tracks;
+use crate::answer::{Answer, answer_of_fault};
+use crate::boards::run_counted;
 use crate::options::Options;
-use crate::report::write_line;
 use crate::served::{Served, plain};
+use crate::texts::write_made;
 use elf32_loader::{ImageFault, Loaded, load};
-use guest_model::{Bytes, NoMemory};
+use guest_model::NoMemory;
 use guest_streams::OutputFault;
-use host_io::{CountSink, Sink};
+use host_io::Sink;
 use region_ledger::{Finished, Row, totals};
 use report_text::bench_text;
 use rv32_asm::generate;
 use std::alloc::Global;
 use track_board::{Entry, Outcome};
-use worker_gate::Conducted;
 
 /// How many regions the program of a bench has.
 const REGIONS: u32 = 64;
@@ -49,18 +48,8 @@ pub fn show_bench<O: Sink>(alloc: Global, number: u32, options: &Options, out: &
     let Ok(loaded) = load_bench(alloc, number) else {
         return plain(Answer::NoMemory);
     };
-    let outcome = match run_tracks(
-        alloc,
-        &loaded,
-        Bytes::new(alloc),
-        options,
-        &mut CountSink::new(),
-        &mut CountSink::new(),
-    ) {
-        Conducted::Done(outcome) => outcome,
-        // A sink that counts doesn't fail.
-        Conducted::WriteFault => unreachable!(),
-        Conducted::NoMemory => return plain(Answer::NoMemory),
+    let Some(outcome) = run_counted(alloc, &loaded, options) else {
+        return plain(Answer::NoMemory);
     };
     let Outcome {
         finished,
@@ -82,8 +71,7 @@ pub fn show_bench<O: Sink>(alloc: Global, number: u32, options: &Options, out: &
             answer: Answer::Shown,
             history: Some(entries),
         },
-        Err(OutputFault::Write) => plain(Answer::WriteFault),
-        Err(OutputFault::NoMemory) => plain(Answer::NoMemory),
+        Err(fault) => plain(answer_of_fault(fault)),
     }
 }
 
@@ -122,16 +110,14 @@ fn write_summary<O: Sink>(
         (bench_lines number (totals_of rows.now finished.now.count) (released_total entries.now) finished.now.end) result }
 {
     let totals = totals(rows, finished.count);
-    match bench_text(
+    let text = bench_text(
         alloc,
         number,
         &totals,
         released_total(entries),
         &finished.end,
-    ) {
-        Ok(text) => write_line(text.as_str(), out),
-        Err(NoMemory) => Err(OutputFault::NoMemory),
-    }
+    );
+    write_made(text, out)
 }
 
 /// How many bytes these entries released.

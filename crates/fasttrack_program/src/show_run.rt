@@ -12,7 +12,7 @@ ghost use Rattle.fasttrack_program.specs.Serving.{IsDone};
 ghost use Rattle.fasttrack_program.specs.TextOnSink.{WritesText};
 ghost use Rattle.fasttrack_program.specs.TopCall.{settings_of};
 
-use crate::answer::{Answer, answer_of};
+use crate::answer::{Answer, answer_of, answer_of_fault};
 use crate::boards::run_tracks;
 use crate::journal::write_journal;
 use crate::options::Options;
@@ -28,7 +28,7 @@ use track_board::{Entry, Outcome};
 use worker_gate::Conducted;
 
 /// Runs the guest with tracks on one thread, and writes the texts that are asked for on `notes` once its end was reached.
-/// What it writes and how it ends is what the guest alone writes and how that ends.
+/// The sinks get the output of the guest alone, and the answer is its end.
 pub fn show_run<O: Sink, N: Sink>(
     alloc: Global,
     loaded: &Loaded,
@@ -69,8 +69,7 @@ pub fn show_run<O: Sink, N: Sink>(
             answer: answer_of(finished.end),
             history: Some(entries),
         },
-        Err(OutputFault::Write) => plain(Answer::WriteFault),
-        Err(OutputFault::NoMemory) => plain(Answer::NoMemory),
+        Err(fault) => plain(answer_of_fault(fault)),
     }
 }
 

@@ -7,10 +7,9 @@ ghost use Rattle.fasttrack_program.specs.Plan.{Runs};
 ghost use Rattle.fasttrack_program.specs.TopCall.{Serves};
 ghost use Rattle.fasttrack_program.specs.declared.options.Options.{Options};
 
-use crate::answer::Answer;
+use crate::answer::{Answer, answer_of_fault};
 use crate::report::write_report;
 use elf32_loader::Loaded;
-use guest_streams::OutputFault;
 use host_io::Sink;
 use region_trial::run_trial;
 use std::alloc::Global;
@@ -38,7 +37,6 @@ pub fn show_trial<O: Sink>(
     };
     match write_report(alloc, trial.rows.as_slice(), &trial.finished, out) {
         Ok(()) => Answer::Shown,
-        Err(OutputFault::Write) => Answer::WriteFault,
-        Err(OutputFault::NoMemory) => Answer::NoMemory,
+        Err(fault) => answer_of_fault(fault),
     }
 }

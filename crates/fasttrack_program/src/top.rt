@@ -1,8 +1,11 @@
 //! The top call: words, image, input, run, and the answer's line, in this order.
 
 ghost use Rattle.std.specs.Prelude.{◌≡◌, ◌<◌, ◌⊎◌, true, false, None, Some, IfSome, IfNone, IsSome, map, string_bytes, vec_len, vec_capacity};
-ghost use Rattle.program_words.specs.CommandLine.{request_of};
-ghost use Rattle.fasttrack_program.specs.Serving.{IsServedWith, asked};
+ghost use Rattle.guest_streams.specs.GuestStreams.{Sinks};
+ghost use Rattle.program_words.specs.CommandLine.{asked, request_of};
+ghost use Rattle.fasttrack_program.specs.Completeness.{NothingFailed, IsComplete};
+ghost use Rattle.fasttrack_program.specs.Reading.{ReadsWithoutFault};
+ghost use Rattle.fasttrack_program.specs.Serving.{IsServedWith};
 ghost use Rattle.fasttrack_program.specs.TopCall.{IsAnswered, IsRefusedEarly, ReadFails, is_bench, needs_workers, told_of};
 
 use crate::answer::Answer;
@@ -27,7 +30,13 @@ use std::alloc::Global;
 /// and writes its summary on `out`; it reads neither `files` nor `input`, and `told` gets its history where the answer is
 /// Shown. Every answer but Exited and Shown is told by one line on `notes`.
 ///
-/// None exactly where the words ask for workers; nothing was read or written then.
+/// What is checked, in this order, the first that refuses deciding: the words (Usage); whether the image file can be read
+/// (ReadFault), its length, at most 33,554,432 bytes (ImageTooLong), and its first fault (BadImage); unless the input is to
+/// be left unread, whether it can be read (ReadFault) and its length, at most 16,777,216 bytes (InputTooLong). Then the task
+/// is done, and at last the answer's line is written. WriteFault comes where `out` or `notes` failed, NoMemory anywhere.
+///
+/// None exactly where the words ask for workers, unless memory ran out; nothing was read or written then. It can't come while
+/// `program_words` takes no number of workers but 0.
 pub fn plain_main<F: Files, I: Source, O: Sink, N: Sink>(
     alloc: Global,
     words: &[String],
@@ -43,6 +52,16 @@ pub fn plain_main<F: Files, I: Source, O: Sink, N: Sink>(
         (record { out = O.contents out.new; out_faults = O.faults out.new; notes = N.contents notes.new; notes_faults = N.faults notes.new })
         told.old told.new answer) }
 
+    // Where no count rose, the answer and the output are what the words, the image and the input ask for, or memory ran
+    // out. So where the words are accepted, the image is within its limit and without a fault, and the input is within its
+    // limit, they are the program's own end with all of its output, or Shown with the whole report
+    // (`laws::good_calls_are_done`).
+    ensures complete { let request = request_of (map string_bytes words.now) in
+        let before : Sinks = record { out = O.contents out.old; out_faults = O.faults out.old; notes = N.contents notes.old; notes_faults = N.faults notes.old } in
+        let after : Sinks = record { out = O.contents out.new; out_faults = O.faults out.new; notes = N.contents notes.new; notes_faults = N.faults notes.new } in
+        IfSome result (λ answer. NothingFailed (F.faults files.old) (F.faults files.new) (I.faults input.old) (I.faults input.new) before after
+        → IsComplete request (told_of (F.contents files.old) request) (I.remaining input.old) before after answer) }
+
     // Workers are asked for exactly where there is no answer, unless memory ran out before the words were read.
     ensures none { IfNone result ((needs_workers (request_of (map string_bytes words.now)) ≡ true)
         × (files.new ≡ files.old) × (input.new ≡ input.old) × (out.new ≡ out.old) × (notes.new ≡ notes.old) × (told.new ≡ told.old)) }
@@ -53,6 +72,9 @@ pub fn plain_main<F: Files, I: Source, O: Sink, N: Sink>(
     ensures read_fault { let request = request_of (map string_bytes words.now) in
         IfSome result (λ answer. answer ≡ Answer.ReadFault
         → ReadFails request (told_of (F.contents files.old) request) (F.faults files.old) (F.faults files.new) I.faults input.old input.new) }
+
+    // A failed read ends the call: where the answer is another, no count of reads rose.
+    ensures counted { IfSome result (ReadsWithoutFault (F.faults files.old) (F.faults files.new) (I.faults input.old) (I.faults input.new)) }
     ensures unread { IfSome (request_of (map string_bytes words.now)) (λ r. r.no_input ≡ true → input.new ≡ input.old) }
     ensures early { IfSome result (λ answer. IsRefusedEarly answer → input.new ≡ input.old) }
     ensures bench { IfSome (request_of (map string_bytes words.now)) (λ r. is_bench r.task ≡ true → (files.new ≡ files.old) × (input.new ≡ input.old)) }
@@ -95,6 +117,7 @@ fn serve_words<F: Files, I: Source, O: Sink, N: Sink>(
     ensures read_fault { let request = request_of (map string_bytes words.now) in
         IfSome result (λ served. served.answer ≡ Answer.ReadFault
         → ReadFails request (told_of (F.contents files.old) request) (F.faults files.old) (F.faults files.new) I.faults input.old input.new) }
+    ensures counted { IfSome result (λ served. ReadsWithoutFault (F.faults files.old) (F.faults files.new) (I.faults input.old) (I.faults input.new) served.answer) }
     ensures unread { IfSome (request_of (map string_bytes words.now)) (λ r. r.no_input ≡ true → input.new ≡ input.old) }
     ensures early { IfSome result (λ served. IsRefusedEarly served.answer → input.new ≡ input.old) }
     ensures bench { IfSome (request_of (map string_bytes words.now)) (λ r. is_bench r.task ≡ true → (files.new ≡ files.old) × (input.new ≡ input.old)) }

@@ -25,7 +25,7 @@ use Rattle.clap.proofs.CallerLemmas.{present_has_entry}
 use Rattle.clap.proofs.TakesLemmas.{present_row}
 use Rattle.clap.proofs.SimpleLemmas.{is_nil}
 use Rattle.clap.proofs.WalkLemmas.{first_value-rows}
-use Rattle.program_words.specs.CommandLine.{HasFlag, HasNumber, HasText, HeldTexts, HoldsValues, command_with, flag_at, number_at, number_of, value_of}
+use Rattle.program_words.specs.CommandLine.{HasFlag, HasNumber, HasText, HeldTexts, HoldsValues, command_with, flag_at, number_of, value_of}
 use Rattle.program_words.proofs.OnWords.{ArePlaced}
 use Rattle.program_words.proofs.Values.{both, default_given, entry_given, first_passes, takes_value}
 
@@ -67,9 +67,8 @@ number_text low high ic q t e h =
     let passed : Accepts ic (vp.Unsigned range.0 range.1) t = subst (λ (w : ValueParser). Accepts ic w t) range.2 h in
     (passed.0, omega arith, omega arith)
 
-in_range : (low high at number : ℕ) → at ≡ number → high < 2 ^ 64 → (low ≤ number) × (number ≤ high)
-    → (number < 2 ^ 64) × (low ≤ at) × (at ≤ high)
-in_range low high at number same fits within = (omega arith, omega arith, omega arith)
+fits_below : (high number : ℕ) → high < 2 ^ 64 → number ≤ high → number < 2 ^ 64
+fits_below high number fits below = omega (arith, fits, below)
 
 abbrev IsSwitch : Text → Type 0
 IsSwitch t = (t ≡ codes "true") ⊎ (t ≡ codes "false")
@@ -151,17 +150,16 @@ module _ (names : HeldTexts) (c : Command) (is : IsCommand names c) where
 
   module _ (f : Found) (used : Bool) (parsed : IsParsed c f used) where
     module _ (id : Text) (named : id ≡ [] → ⊥) where
-      -- an option has its number, in its range
+      -- an option has its number
       number_there : (low high : ℕ) → high < 2 ^ 64 → has_number id low high (command_with names) ≡ true → has_number id low high (built (command_with names)) ≡ true
-          → HasNumber f id × (low ≤ number_at id (rows_of f)) × (number_at id (rows_of f) ≤ high)
+          → HasNumber f id
       number_there low high fits before after =
           let there = both _ _ (by_app (λ a. has_number id low high a ≡ true) names c is before after) in
           let has = default_given c f id no_groups named (good_number low high) there.0 parsed.values parsed.defaults (λ a g. (both _ _ g).0) there.1 in
           let got = first_passes c f id no_groups named (good_number low high) there.0 (IsWithin low high) reading.AsWritten parsed.values
           (λ a g v h. number_text low high a.ignore_case (parser_of a) v (both _ _ g).1 h)
           (λ a g. ap reading_of (range_is low high (parser_of a) (both _ _ g).1).2) has.0 has.1 in
-          let range = in_range low high _ _ (ap number_of (value_is f id has.0 has.1)) fits (got.0.1, got.0.2) in
-          ((has.0, has.1, got.1, got.0.0, range.0), range.1, range.2)
+          (has.0, has.1, got.1, got.0.0, fits_below high (number_of has.0) fits got.0.2)
 
       -- a positional that is given has its text
       text_there : has_text id (command_with names) ≡ true → has_text id (built (command_with names)) ≡ true → is_given id (rows_of f) ≡ true → HasText f id
@@ -190,8 +188,7 @@ values_hold names old new made (inr kept) whole f used parse placed =
         text_there names new is f used parsed (codes "COMMAND") (λ e. cc) refl refl placed.0,
         text_there names new is f used parsed (codes "IMAGE") (λ e. cc) refl refl placed.1,
       ),
-      (tracks.0, workers.0, budget.0),
-      (tracks.1, tracks.2, workers.2, budget.1, budget.2),
+      (tracks, workers, budget),
       (
         flag_there names new is f used parsed (codes "no-input") (λ e. cc) refl refl,
         flag_there names new is f used parsed (codes "report") (λ e. cc) refl refl,

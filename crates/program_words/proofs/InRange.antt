@@ -137,7 +137,7 @@ in_range words request e = go (fault_of command words) refl e
         subst IsInRange same (record {
           least_tracks = tracks.0;
           most_tracks = tracks.1;
-          workers = workers.1;
+          workers = omega (arith, workers.1);
           least_budget = budget.0;
           most_budget = budget.1;
           task = short_task (value_of (codes "COMMAND") rows) (value_of (codes "IMAGE") rows) task is;

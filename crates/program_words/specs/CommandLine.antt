@@ -5,12 +5,13 @@ use Rattle.std.specs.Borrow.{Bor}
 use Rattle.std.specs.Char.{digit_value}
 use Rattle.std.specs.Str.{bytes_eq}
 use Rattle.std.specs.Str.Parse.{digits_value, IsNumeral, without_leading_plus}
-use Rattle.clap.specs.Words.{App, Kinds, Row, Rule, Text, fault_of, first_of, matches_of, new_app, new_rule, rows_of, with_rule}
+use Rattle.clap.specs.Words.{App, Kinds, Row, Rule, Text, fault_of, first_of, matches_of, new_app, new_rule, with_rule}
 use Rattle.clap.specs.Matches.{first_value, one_text}
 use Rattle.clap.specs.declared.parser.matches.Found.{Found}
 use Rattle.clap.specs.declared.builder.ArgAction.TheVariants.{SetTrue}
 use Rattle.clap.specs.declared.builder.ValueParser.{ValueParser}
 use Rattle.clap.specs.declared.builder.ValueParser.TheVariants.{Bool as BoolParser, Names, Unsigned}
+use Rattle.program_words.specs.declared.request.Request.{Request as GivenRequest}
 use Rattle.program_words.specs.declared.request.Task.{Task}
 use Rattle.program_words.specs.declared.request.Task.TheVariants.{Alone, Run, Trial, Bench}
 
@@ -105,6 +106,19 @@ pub record Request : Type 0 where
   pub report : Bool
   pub journal : Bool
 
+-- a request of the code as the definitions speak of it
+abbrev pub asked : GivenRequest → Request
+asked r = record {
+  task = r.task;
+  image = r.image.now;
+  tracks = r.tracks;
+  workers = r.workers;
+  budget = r.budget;
+  no_input = r.no_input;
+  report = r.report;
+  journal = r.journal;
+}
+
 -- the value of an argument that has one
 abbrev pub value_of : Text → List Row → Text
 value_of id rows = unwrap_or (first_of id rows) []
@@ -177,7 +191,7 @@ HasShortNumber (Bench number) = number < 2 ^ 32
 pub record IsInRange (r : Request) : Type 0 where
   pub least_tracks : 1 ≤ r.tracks
   pub most_tracks : r.tracks ≤ 32
-  pub workers : r.workers ≤ 0
+  pub workers : r.workers ≡ 0
   pub least_budget : 1 ≤ r.budget
   pub most_budget : r.budget ≤ 2 ^ 40
   pub task : HasShortNumber r.task
@@ -193,11 +207,6 @@ abbrev pub HasNumber : Found → Text → Type 0
 HasNumber f id = (text : Text) × (first_value f id ≡ Some text) × (one_text f id ≡ Some text)
     × IsNumeral 10 (without_leading_plus text) × (number_of text < 2 ^ 64)
 
--- the number of each option is in its range
-abbrev pub AreInRange : List Row → Type 0
-AreInRange rows = (1 ≤ number_at (codes "tracks") rows) × (number_at (codes "tracks") rows ≤ 32) × (number_at (codes "workers") rows ≤ 0)
-    × (1 ≤ number_at (codes "budget") rows) × (number_at (codes "budget") rows ≤ 1099511627776)
-
 -- a value of a flag is one of the two words for it
 abbrev pub HasFlag : Found → Text → Type 0
 HasFlag f id = (text : Text) → first_value f id ≡ Some text
@@ -207,5 +216,4 @@ HasFlag f id = (text : Text) → first_value f id ≡ Some text
 abbrev pub HoldsValues : Found → Type 0
 HoldsValues f = (HasText f (codes "COMMAND") × HasText f (codes "IMAGE"))
     × (HasNumber f (codes "tracks") × HasNumber f (codes "workers") × HasNumber f (codes "budget"))
-    × AreInRange (rows_of f)
     × (HasFlag f (codes "no-input") × HasFlag f (codes "report") × HasFlag f (codes "journal"))

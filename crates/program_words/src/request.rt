@@ -1,8 +1,8 @@
 //! What the words ask for.
 
-ghost use Rattle.std.specs.Prelude.{◌≡◌, ◌≤◌, ◌^◌, Some, None, Err, IfOk, codes, map, string_bytes};
+ghost use Rattle.std.specs.Prelude.{◌≡◌, Some, None, Err, IfOk, codes, map, string_bytes};
 ghost use Rattle.clap.specs.Words.{found_of, rows_of};
-ghost use Rattle.program_words.specs.CommandLine.{HasFlag, HasNumber, HasText, HoldsValues, bench_number, flag_at, number_at, request_in, request_of, task_at, task_of, value_of};
+ghost use Rattle.program_words.specs.CommandLine.{HasFlag, HasNumber, HasText, HoldsValues, IsInRange, asked, bench_number, flag_at, number_at, request_in, request_of, task_at, task_of, value_of};
 
 use crate::command::command;
 use clap::ArgMatches;
@@ -72,9 +72,8 @@ impl From<AllocError> for WordsFault {
 /// room.
 pub fn read_words<'a>(alloc: Global, words: &'a [String]) -> Result<Request<'a>, WordsFault>
     ensures usage { result ≡ Err WordsFault.Usage → request_of (map string_bytes words.now) ≡ None }
-    ensures ok { IfOk result (λ r. request_of (map string_bytes words.now)
-        ≡ Some (record { task = r.task; image = r.image.now; tracks = r.tracks; workers = r.workers; budget = r.budget; no_input = r.no_input; report = r.report; journal = r.journal })) }
-    ensures bounds { IfOk result (λ r. (1 ≤ r.tracks) × (r.tracks ≤ 32) × (r.workers ≤ 0) × (1 ≤ r.budget) × (r.budget ≤ 2 ^ 40)) }
+    ensures ok { IfOk result (λ r. request_of (map string_bytes words.now) ≡ Some (asked r)) }
+    ensures bounds { IfOk result (λ r. IsInRange (asked r)) }
 {
     let matches = parse_words(alloc, words)?;
     let Some(task) = task_in(&matches) else {

@@ -1,6 +1,9 @@
-use Rattle.fasttrack_program.specs.Reports.{program_report}
+use Rattle.fasttrack_program.specs.Reports.{program_report, bench_report}
 use Rattle.fasttrack_program.proofs.OnReports.{stops_on_out}
 use Rattle.fasttrack_program.proofs.laws.reports_fail_on_out.Goals as goal
 
-pub returns : goal.returns
-returns c = λ image input options entries old new h. stops_on_out old new (program_report image input options.budget) h
+pub returns-clause-trial : goal.returns-clause-trial
+returns-clause-trial c = λ image input options entries old new h. stops_on_out old new (program_report image input options.budget) h
+
+pub returns-clause-bench : goal.returns-clause-bench
+returns-clause-bench c = λ number image input options entries old new h. stops_on_out old new (bench_report number image input options.budget) h

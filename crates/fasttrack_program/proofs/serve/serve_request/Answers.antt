@@ -3,12 +3,12 @@ use Rattle.elf32_loader.specs.LoadedImage.{image_of_loaded}
 use Rattle.elf32_loader.specs.declared.loaded.Loaded.{Loaded}
 use Rattle.basic_types.specs.declared.bytes.Bytes.{Bytes}
 use Rattle.guest_streams.specs.GuestStreams.{Sinks}
-use Rattle.program_words.specs.CommandLine.{Request}
+use Rattle.program_words.specs.CommandLine.{Request, asked}
 use Rattle.program_words.specs.declared.request.Task.TheVariants.{Bench}
-use Rattle.fasttrack_program.specs.Plan.{Runs, bench_plan, options_of}
-use Rattle.fasttrack_program.specs.Serving.{IsDone, IsServedWith, asked}
+use Rattle.fasttrack_program.specs.Plan.{Runs, bench_plan}
+use Rattle.fasttrack_program.specs.Serving.{IsDone, IsServedWith}
 use Rattle.fasttrack_program.specs.TopCall.{is_bench}
-use Rattle.fasttrack_program.proofs.OnPlans.{no_bench, served-image, served-input, served-no_input, served-runs, served-bench, late-input, late-runs, counted-read}
+use Rattle.fasttrack_program.proofs.OnPlans.{no_bench, wanted, served-image, served-refused, served-runs, served-bench, late-input, late-runs, counted-read, calm-read}
 use Rattle.fasttrack_program.proofs.serve.serve_request.Goals as goal
 
 pub returns-in-Bench-clause-served : goal.returns-in-Bench-clause-served
@@ -24,53 +24,43 @@ returns-in-Err-clause-served g c =
     let before : Sinks = record { out = g.O.Sink.contents c.args.out.now; out_faults = g.O.Sink.faults c.args.out.now; notes = g.N.Sink.contents c.args.notes.now; notes_faults = g.N.Sink.faults c.args.notes.now } in
     let reads : is_bench c.args.request.now.task ≡ false = no_bench c.args.request.now.task c.in_default.not-Bench in
     subst (IsServedWith (Some (asked c.args.request.now)) (g.F.Files.contents c.args.files.now c.args.request.now.image.now) (g.I.Source.remaining c.args.input.now) before before) (sym c.plain.ensures)
-    (served-image (asked c.args.request.now) (g.F.Files.contents c.args.files.now c.args.request.now.image.now) (g.I.Source.remaining c.args.input.now) reads before c.in-Err.answer c.in-Err.ensures.reads)
+    (served-image (asked c.args.request.now) c.requires.some (g.F.Files.contents c.args.files.now c.args.request.now.image.now) (g.I.Source.remaining c.args.input.now) reads before c.in-Err.answer c.in-Err.ensures.reads)
 
 pub returns-in-Err-clause-read_fault : goal.returns-in-Err-clause-read_fault
 returns-in-Err-clause-read_fault g c = λ h.
     (no_bench c.args.request.now.task c.in_default.not-Bench, inl (counted-read Loaded _ _ c.in-Err.answer c.plain.result c.in-Err.ensures.counted c.plain.ensures h, refl))
 
-pub returns-then-request-clause-served : goal.returns-then-request-clause-served
-returns-then-request-clause-served g c =
+pub returns-in-Err-clause-counted : goal.returns-in-Err-clause-counted
+returns-in-Err-clause-counted g c = λ h. (calm-read Loaded _ _ c.in-Err.answer c.plain.result c.in-Err.ensures.counted c.plain.ensures h, refl)
+
+pub returns-in-Ok-read_wanted-clause-served : goal.returns-in-Ok-read_wanted-clause-served
+returns-in-Ok-read_wanted-clause-served g c =
     let before : Sinks = record { out = g.O.Sink.contents c.args.out.now; out_faults = g.O.Sink.faults c.args.out.now; notes = g.N.Sink.contents c.args.notes.now; notes_faults = g.N.Sink.faults c.args.notes.now } in
     let after : Sinks = record { out = g.O.Sink.contents c.do_task.new.out; out_faults = g.O.Sink.faults c.do_task.new.out; notes = g.N.Sink.contents c.do_task.new.notes; notes_faults = g.N.Sink.faults c.do_task.new.notes } in
     let r : Request = asked c.args.request.now in
     let reads : is_bench c.args.request.now.task ≡ false = no_bench c.args.request.now.task c.in_default.not-Bench in
-    served-no_input r (g.F.Files.contents c.args.files.now c.args.request.now.image.now) (g.I.Source.remaining c.args.input.now) before after c.do_task.result c.in-Ok.loaded reads c.if-request.true c.in-Ok.ensures.reads
-    (subst (λ bs. IsDone r.task (Runs r.task (image_of_loaded c.in-Ok.loaded) bs (options_of r)) before after c.do_task.result) c.new.ensures
-    (subst (λ o. IsDone r.task (Runs r.task (image_of_loaded c.in-Ok.loaded) c.new.result o) before after c.do_task.result) c.options_in-options.ensures c.do_task.ensures.done))
+    served-runs r (g.F.Files.contents c.args.files.now c.args.request.now.image.now) (g.I.Source.remaining c.args.input.now) before after c.do_task.result c.in-Ok.loaded c.in-Ok-read_wanted.bytes reads c.in-Ok.ensures.reads c.in-Ok-read_wanted.ensures.reads
+    (subst (λ o. IsDone r.task (Runs r.task (image_of_loaded c.in-Ok.loaded) c.in-Ok-read_wanted.bytes o) before after c.do_task.result) c.options_in-options.ensures c.do_task.ensures.done)
 
-pub returns-then-request-clause-read_fault : goal.returns-then-request-clause-read_fault
-returns-then-request-clause-read_fault g c = λ h. absurd (c.do_task.ensures.reads_nothing h)
+pub returns-in-Ok-read_wanted-clause-read_fault : goal.returns-in-Ok-read_wanted-clause-read_fault
+returns-in-Ok-read_wanted-clause-read_fault g c = λ h. absurd (c.do_task.ensures.reads_nothing h)
 
-pub returns-in-Ok-read_input-clause-served : goal.returns-in-Ok-read_input-clause-served
-returns-in-Ok-read_input-clause-served g c =
-    let before : Sinks = record { out = g.O.Sink.contents c.args.out.now; out_faults = g.O.Sink.faults c.args.out.now; notes = g.N.Sink.contents c.args.notes.now; notes_faults = g.N.Sink.faults c.args.notes.now } in
-    let after : Sinks = record { out = g.O.Sink.contents c.do_task-in-Ok-read_input.new.out; out_faults = g.O.Sink.faults c.do_task-in-Ok-read_input.new.out; notes = g.N.Sink.contents c.do_task-in-Ok-read_input.new.notes; notes_faults = g.N.Sink.faults c.do_task-in-Ok-read_input.new.notes } in
-    let r : Request = asked c.args.request.now in
-    let reads : is_bench c.args.request.now.task ≡ false = no_bench c.args.request.now.task c.in_default.not-Bench in
-    served-runs r (g.F.Files.contents c.args.files.now c.args.request.now.image.now) (g.I.Source.remaining c.args.input.now) before after c.do_task-in-Ok-read_input.result c.in-Ok.loaded c.in-Ok-read_input.bytes reads c.if-request.false c.in-Ok.ensures.reads c.in-Ok-read_input.ensures.reads
-    (subst (λ o. IsDone r.task (Runs r.task (image_of_loaded c.in-Ok.loaded) c.in-Ok-read_input.bytes o) before after c.do_task-in-Ok-read_input.result) c.options_in-options.ensures c.do_task-in-Ok-read_input.ensures.done)
-
-pub returns-in-Ok-read_input-clause-read_fault : goal.returns-in-Ok-read_input-clause-read_fault
-returns-in-Ok-read_input-clause-read_fault g c = λ h. absurd (c.do_task-in-Ok-read_input.ensures.reads_nothing h)
-
-pub returns-in-Ok-read_input-clause-early : goal.returns-in-Ok-read_input-clause-early
-returns-in-Ok-read_input-clause-early g c = λ h. absurd (late-runs _ _ _ _ _ _ c.do_task-in-Ok-read_input.result c.do_task-in-Ok-read_input.ensures.done h)
+pub returns-in-Ok-read_wanted-clause-early : goal.returns-in-Ok-read_wanted-clause-early
+returns-in-Ok-read_wanted-clause-early g c = λ h. absurd (late-runs _ _ _ _ _ _ c.do_task.result c.do_task.ensures.done h)
 
 pub returns-clause-served : goal.returns-clause-served
 returns-clause-served g c =
     let before : Sinks = record { out = g.O.Sink.contents c.args.out.now; out_faults = g.O.Sink.faults c.args.out.now; notes = g.N.Sink.contents c.args.notes.now; notes_faults = g.N.Sink.faults c.args.notes.now } in
     let reads : is_bench c.args.request.now.task ≡ false = no_bench c.args.request.now.task c.in_default.not-Bench in
-    subst (IsServedWith (Some (asked c.args.request.now)) (g.F.Files.contents c.args.files.now c.args.request.now.image.now) (g.I.Source.remaining c.args.input.now) before before) (sym c.plain-in-Err-read_input.ensures)
-    (served-input (asked c.args.request.now) (g.F.Files.contents c.args.files.now c.args.request.now.image.now) (g.I.Source.remaining c.args.input.now) reads before c.in-Ok.loaded c.in-Err-read_input.answer c.if-request.false c.in-Ok.ensures.reads c.in-Err-read_input.ensures.reads)
+    subst (IsServedWith (Some (asked c.args.request.now)) (g.F.Files.contents c.args.files.now c.args.request.now.image.now) (g.I.Source.remaining c.args.input.now) before before) (sym c.plain-in-Err-read_wanted.ensures)
+    (served-refused (asked c.args.request.now) c.requires.some (g.F.Files.contents c.args.files.now c.args.request.now.image.now) (g.I.Source.remaining c.args.input.now) reads before c.in-Ok.loaded c.in-Err-read_wanted.answer c.in-Ok.ensures.reads c.in-Err-read_wanted.ensures.reads)
 
 pub returns-clause-read_fault : goal.returns-clause-read_fault
 returns-clause-read_fault g c = λ h. (
   no_bench c.args.request.now.task c.in_default.not-Bench,
   inr (record {
-    wanted = c.if-request.false;
-    rose = counted-read Bytes _ _ c.in-Err-read_input.answer c.plain-in-Err-read_input.result c.in-Err-read_input.ensures.counted c.plain-in-Err-read_input.ensures h;
+    wanted = (wanted (asked c.args.request.now) (g.I.Source.remaining c.args.input.now) c.in-Err-read_wanted.answer c.in-Err-read_wanted.ensures.reads).0;
+    rose = counted-read Bytes _ _ c.in-Err-read_wanted.answer c.plain-in-Err-read_wanted.result c.in-Err-read_wanted.ensures.counted c.plain-in-Err-read_wanted.ensures h;
     files_calm = c.in-Ok.ensures.counted;
     file = c.in-Ok.ensures.reads.0;
     file_told = c.in-Ok.ensures.reads.1;
@@ -79,5 +69,8 @@ returns-clause-read_fault g c = λ h. (
   }),
 )
 
+pub returns-clause-counted : goal.returns-clause-counted
+returns-clause-counted g c = λ h. (c.in-Ok.ensures.counted, calm-read Bytes _ _ c.in-Err-read_wanted.answer c.plain-in-Err-read_wanted.result c.in-Err-read_wanted.ensures.counted c.plain-in-Err-read_wanted.ensures h)
+
 pub returns-clause-early : goal.returns-clause-early
-returns-clause-early g c = λ h. absurd (late-input (g.I.Source.remaining c.args.input.now) c.in-Err-read_input.answer c.plain-in-Err-read_input.result c.in-Err-read_input.ensures.reads c.plain-in-Err-read_input.ensures h)
+returns-clause-early g c = λ h. absurd (late-input c.args.request.now.no_input (g.I.Source.remaining c.args.input.now) c.in-Err-read_wanted.answer c.plain-in-Err-read_wanted.result c.in-Err-read_wanted.ensures.reads c.plain-in-Err-read_wanted.ensures h)

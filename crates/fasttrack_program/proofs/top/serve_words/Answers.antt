@@ -3,6 +3,7 @@ use Rattle.program_words.specs.CommandLine.{Request}
 use Rattle.guest_streams.specs.GuestStreams.{Sinks}
 use Rattle.fasttrack_program.specs.Serving.{IsServedWith}
 use Rattle.fasttrack_program.specs.TopCall.{is_bench, told_of}
+use Rattle.fasttrack_program.proofs.OnHistories.{words-allow}
 use Rattle.fasttrack_program.proofs.OnPlans.{of_any, served-usage, served-no_memory}
 use Rattle.fasttrack_program.proofs.top.serve_words.Goals as goal
 
@@ -14,7 +15,7 @@ returns-in-Err-Usage-clause-served g c =
     (subst (IsServedWith None None (g.I.Source.remaining c.args.input.now) before before) (sym c.plain.ensures) (served-usage None (g.I.Source.remaining c.args.input.now) before))
 
 pub returns-in-Err-NoMemory-clause-served : goal.returns-in-Err-NoMemory-clause-served
-returns-in-Err-NoMemory-clause-served g c = rw c.plain-in-Err-NoMemory.ensures (served-no_memory _ _ (g.I.Source.remaining c.args.input.now) _)
+returns-in-Err-NoMemory-clause-served g c = rw c.plain-in-Err-NoMemory.ensures (served-no_memory _ (words-allow _) _ (g.I.Source.remaining c.args.input.now) _)
 
 pub returns-in-Err-NoMemory-clause-unread : goal.returns-in-Err-NoMemory-clause-unread
 returns-in-Err-NoMemory-clause-unread g c =
@@ -29,4 +30,4 @@ returns-in-Err-NoMemory-clause-bench g c =
     of_any _ P all
 
 pub returns-in-Err-clause-served : goal.returns-in-Err-clause-served
-returns-in-Err-clause-served g c = rw c.plain-in-Err.ensures (served-no_memory _ _ (g.I.Source.remaining c.args.input.now) _)
+returns-in-Err-clause-served g c = rw c.plain-in-Err.ensures (served-no_memory _ (words-allow _) _ (g.I.Source.remaining c.args.input.now) _)
