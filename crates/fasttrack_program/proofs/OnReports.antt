@@ -108,7 +108,7 @@ parts_marked got rest text e = sym (marked-append 1 got rest) ∙ ap (marked 1) 
 pub text_shown : (s : Sinks) (told : Option (List ℕ)) (faults : ℕ) (text : List ℕ) → Appends s.out told text → faults ≡ s.out_faults → GetsAll s (record s { out = told; out_faults = faults }) (marked 1 text)
 text_shown s told faults text a c = record { gets = Gets-on_out s told faults text a; calm = record { on_out = c; on_notes = refl } }
 
-pub text_stops : (s : Sinks) (told : Option (List ℕ)) (faults : ℕ) (text : List ℕ)
+text_stops : (s : Sinks) (told : Option (List ℕ)) (faults : ℕ) (text : List ℕ)
     → WritesText {T = Unit {0}} s.out told s.out_faults faults text (Err Write) → StopsShort s (record s { out = told; out_faults = faults }) (marked 1 text)
 text_stops s told faults text h = record {
   got = marked 1 h.0.beginning.got;
@@ -118,7 +118,7 @@ text_stops s told faults text h = record {
   fails = inl (h.1, refl, IsNext-marked 1 h.0.beginning.rest h.0.more);
 }
 
-pub text_within : (s : Sinks) (told : Option (List ℕ)) (faults : ℕ) (text : List ℕ)
+text_within : (s : Sinks) (told : Option (List ℕ)) (faults : ℕ) (text : List ℕ)
     → WritesText {T = Unit {0}} s.out told s.out_faults faults text (Err NoMemory) → GetsPart s (record s { out = told; out_faults = faults }) (marked 1 text)
 text_within s told faults text h = record {
   got = marked 1 h.0.got;
