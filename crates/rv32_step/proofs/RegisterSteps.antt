@@ -1,5 +1,5 @@
 -- The step at a word that was fetched before
-use Rattle.std.proofs.Common.{◌≡◌, ℕ, Bool, false, List, Option, Some, None, Ok, Err, refl, sym, ap, ◌∙◌, inl, inr}
+use Rattle.std.proofs.Common.{◌≡◌, ◌≢◌, ℕ, Bool, false, List, Option, Some, None, Ok, Err, refl, sym, ap, ◌∙◌, subst, inl, inr}
 use Rattle.std.specs.Prelude.{◌==◌}
 use Rattle.std.specs.Int.{w32}
 use Rattle.std.proofs.lemmas.Bool.{cases_Bool, eqb-true}
@@ -26,27 +26,29 @@ module _ (s : MachineState) (w : ℕ) (fetched : load w32 s.memory s.regs.pc ≡
   pub illegal : None ≡ instr w → StepsRegisters s s.regs (R.Ends (E.Trap Illegal s.regs.pc))
   illegal row = ((λ e. cc), step-row None row, refl)
 
-  pub other : (i : Instr) → Some i ≡ instr w → FieldsFit i → ChangesMore i → StepsRegisters s s.regs (R.Other i)
-  other i row fit more = (record { fit = fit; more = more; is = step-row (Some i) row }, refl)
-
   on_registers : (i : Instr) → ChangesRegisters i → (fast : Bool) (input : List ℕ) → step_instr fast input s i ≡ after_effect s.regs.pc (with_regs s (regs_effect i s.regs s.memory))
   on_registers (Store width rs1 rs2 offset) h fast input = absurd h
   on_registers Ecall h fast input = absurd h
   on_registers _ h fast input = refl
 
-  -- no instruction on registers has the word of ECALL
-  not_ecall : (i : Instr) → Some i ≡ instr w → ChangesRegisters i → is_ecall (load w32 s.memory s.regs.pc) ≡ false
-  not_ecall i row h = ap is_ecall fetched ∙ (elim (cases_Bool (w == 0x00000073)) [
-    | inl same ↦ absurd (not_both i (row ∙ ap instr (eqb-true w 0x00000073 same)) h)
-    | inr differs ↦ differs
+  -- the word of ECALL is that of no other instruction
+  not_ecall : (i : Instr) → Some i ≡ instr w → i ≢ Ecall → is_ecall (load w32 s.memory s.regs.pc) ≡ false
+  not_ecall i row differs = ap is_ecall fetched ∙ (elim (cases_Bool (w == 0x00000073)) [
+    | inl same ↦ absurd (differs (is_some-same (row ∙ ap instr (eqb-true w 0x00000073 same))))
+    | inr other ↦ other
   ]) where
-    not_both : (i : Instr) → Some i ≡ Some Ecall → ChangesRegisters i → ⊥
-    not_both (Ecall) e h = h
-    not_both _ e h = cc
+    is_some-same : Some i ≡ Some Ecall → i ≡ Ecall
+    is_some-same e = cc
+
+  no_ecall : (i : Instr) → ChangesRegisters i → i ≢ Ecall
+  no_ecall i h e = subst ChangesRegisters e h
+
+  pub other : (i : Instr) → Some i ≡ instr w → FieldsFit i → ChangesMore i → StepsRegisters s s.regs (R.Other i)
+  other i row fit more = (record { fit = fit; more = more; is = step-row (Some i) row; no_call = not_ecall i row }, refl)
 
   pub went : (i : Instr) (new : RegFile) → Some i ≡ instr w → ChangesRegisters i → regs_effect i s.regs s.memory ≡ Ok new → StepsRegisters s new R.Next
   went i new row h e =
-      ((λ fast input. step-row (Some i) row fast input ∙ on_registers i h fast input ∙ ap (λ r. after_effect s.regs.pc (with_regs s r)) e), not_ecall i row h)
+      ((λ fast input. step-row (Some i) row fast input ∙ on_registers i h fast input ∙ ap (λ r. after_effect s.regs.pc (with_regs s r)) e), not_ecall i row (no_ecall i h))
 
   pub trapped : (i : Instr) (trap : Trap) → Some i ≡ instr w → ChangesRegisters i → regs_effect i s.regs s.memory ≡ Err trap → StepsRegisters s s.regs (R.Ends (E.Trap trap s.regs.pc))
   trapped i trap row h e =

@@ -1,3 +1,4 @@
+pub mod Decoded
 pub mod FastStep
 pub mod Moves
 pub mod Steps

@@ -25,8 +25,9 @@ pub fn finish(rd: u8, value: u32, regs: &mut Regs)
     requires { rd < 32 }
     ensures { regs.new ≡ with_result regs.old rd value }
 {
+    let next = regs.pc().wrapping_add(4);
     regs.set(rd, value);
-    advance(regs);
+    regs.set_pc(next);
 }
 
 /// The address of a load, of a store or of a jump through a register.

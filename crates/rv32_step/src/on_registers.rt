@@ -6,7 +6,7 @@ ghost use Rattle.guest_model.specs.ByteMap.{load};
 ghost use Rattle.guest_model.specs.declared.state.Heap.{Heap};
 ghost use Rattle.guest_model.specs.InstructionTable.{FieldsFit};
 ghost use Rattle.guest_calls.specs.Serves.{state_of};
-ghost use Rattle.rv32_step.specs.RegisterSteps.{StepsRegisters};
+ghost use Rattle.rv32_step.specs.RegisterSteps.{StepsRegisters, StandsAt};
 
 use crate::effects::change_registers;
 use guest_model::{End, Instr, Memory, Regs, Trap};
@@ -33,6 +33,16 @@ pub fn step_registers<M: Memory>(word: u32, regs: &mut Regs, memory: &M) -> Regi
     let Some(instr) = decode(word) else {
         return RegisterStep::Ends(End::Trap(Trap::Illegal, regs.pc()));
     };
+    take(instr, regs, memory)
+}
+
+/// Carries out this instruction, which stands at pc, where it changes registers alone: any one but stores and ECALL.
+#[inline(always)]
+pub fn take<M: Memory>(instr: Instr, regs: &mut Regs, memory: &M) -> RegisterStep
+    requires fit { FieldsFit instr }
+    requires here { StandsAt (M.bytes memory.now) regs.old.pc instr }
+    ensures { (place : ℕ) (heap : Heap) → StepsRegisters (state_of (M.bytes memory.now) place heap regs.old) regs.new result }
+{
     match instr {
         Instr::Ecall | Instr::Store { .. } => RegisterStep::Other(instr),
         _ => match change_registers(instr, regs, memory) {
