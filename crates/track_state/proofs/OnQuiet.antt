@@ -1,21 +1,26 @@
 -- Runs of instructions that change registers alone
-use Rattle.std.proofs.Common.{◌≡◌, ℕ, zero, suc, ◌+◌, ◌*◌, ◌<◌, ◌≤◌, ◌&&◌, true, false, List, [], ◌∷◌, Some, get_or, is_some, refl, sym, ap, ◌∙◌, subst, add-one, add-zero, arith}
+use Rattle.std.proofs.Common.{◌≡◌, ℕ, ℤ, zero, suc, ◌+◌, ◌*◌, ◌<◌, ◌≤◌, ◌&&◌, true, false, List, [], ◌∷◌, Some, Result, Ok, Err, get_or, is_some, refl, sym, ap, ◌∙◌, subst, add-one, add-zero, arith}
 use Rattle.std.specs.Prelude.{◌==◌, slice_index, unwrap_or}
 use Rattle.std.specs.Int.{w32, from_le_bytes}
 use Rattle.speculation.specs.declared.tracks.Kind.{Kind}
 use Rattle.speculation.specs.declared.tracks.Kind.TheVariants.{Normal, Fast, Segment}
+use Rattle.speculation.specs.Machine.{Next as GoesOn}
 use Rattle.speculation.specs.Run.{Piece}
 use Rattle.guest_model.specs.ByteMap.{ByteMap, load, mapped, bytes_from}
 use Rattle.guest_model.specs.Registers.{RegFile, reg}
 use Rattle.guest_model.specs.MachineState.{MachineState}
 use Rattle.guest_model.specs.declared.state.Heap.{Heap}
-use Rattle.guest_model.specs.Step.{is_ecall, at_fast, at_end}
+use Rattle.guest_model.specs.Effect.{address, store_effect}
+use Rattle.guest_model.specs.Step.{step, after_effect, is_ecall, at_fast, at_end}
+use Rattle.guest_model.specs.declared.end.Trap.{Trap}
+use Rattle.guest_model.specs.declared.instr.StoreWidth.{StoreWidth}
+use Rattle.guest_model.specs.declared.instr.Instr.TheVariants.{Store}
 use Rattle.guest_model.proofs.OnByteMap.{mapped-all, bytes_from-fill, load-mapped}
 use Rattle.paged_image.specs.Pages.{IsPage}
-use Rattle.rv32_step.specs.RegisterSteps.{StepsRegisters}
+use Rattle.rv32_step.specs.RegisterSteps.{StepsRegisters, IsOther}
 use Rattle.rv32_step.specs.declared.on_registers.RegisterStep.TheVariants.{Next}
 use Rattle.track_state.specs.Progress.{halts}
-use Rattle.track_state.specs.Quiet.{QuietSteps, QuietRegisters, seen}
+use Rattle.track_state.specs.Quiet.{IsQuiet, QuietSteps, QuietRegisters, seen}
 use Rattle.track_state.proofs.OnProgress.{SoFar, SoFar-quiet}
 
 -- ---- a word on a page
@@ -50,6 +55,28 @@ pub quiet-more : (m : ByteMap) (f g h : RegFile) (n : ℕ) → QuietRegisters m 
 quiet-more m f g h n before last = λ input place heap.
     let s = last place heap in
     rw add-one (seen m place heap g, before input place heap, record { goes = s.0 false input; word = s.1 })
+
+-- ---- runs one behind the other
+
+pub quiet-append : (input : List ℕ) (n m : ℕ) (s t u : MachineState) → QuietSteps input s n t → QuietSteps input t m u → QuietSteps input s (n + m) u
+quiet-append input n zero s t u h e = subst (λ v. QuietSteps input s (n + 0) v) (sym e) (rw add-zero h)
+quiet-append input n (suc m) s t u h (v, before, last) =
+    let whole : suc (n + m) ≡ n + suc m = omega arith in
+    subst (λ k. QuietSteps input s k u) whole (v, quiet-append input n m s t v h before, last)
+
+pub quiet-one : (input : List ℕ) (n : ℕ) (s t u : MachineState) → QuietSteps input s n t → IsQuiet input t u → QuietSteps input s (n + 1) u
+quiet-one input n s t u h last = rw add-one (t, h, last)
+
+-- ---- stores
+
+no_bytes : (pc : ℕ) (r : Result MachineState Trap) (t : MachineState) (stream : ℕ) (bytes : List ℕ) → after_effect pc r ≡ GoesOn t stream bytes → bytes ≡ []
+no_bytes pc (Ok s) t stream bytes e = cc
+no_bytes pc (Err trap) t stream bytes e = absurd (cc)
+
+-- a store writes to no stream
+pub store-is_silent : (input : List ℕ) (s t : MachineState) (width : StoreWidth) (rs1 rs2 : ℕ) (offset : ℤ) (stream : ℕ) (bytes : List ℕ) → IsOther s (Store width rs1 rs2 offset) → step false input s ≡ GoesOn t stream bytes → bytes ≡ []
+store-is_silent input s t width rs1 rs2 offset stream bytes h goes =
+    no_bytes s.regs.pc (store_effect width (address s.regs rs1 offset) (reg s.regs rs2) s) t stream bytes (sym (h.is false input) ∙ goes)
 
 -- ---- a run on its way
 

@@ -6,6 +6,7 @@
 
 mod comparison;
 pub mod laws;
+mod memo;
 mod progress;
 mod quiet;
 mod start;

@@ -1,6 +1,6 @@
 //! The loop over instructions.
 
-ghost use Rattle.std.specs.Prelude.{◌≡◌, ℕ, true, false, ◌+◌, ◌^◌, ◌<◌, ◌≤◌, ◌⊎◌, [], ◌∷◌, ◌++◌, length, IsTrue, IfSome, IfOk, OnErr, nat_le};
+ghost use Rattle.std.specs.Prelude.{◌≡◌, ℕ, true, false, ◌+◌, ◌^◌, ◌<◌, ◌≤◌, ◌⊎◌, [], ◌∷◌, ◌++◌, length, IsTrue, IfOk, OnErr, nat_le};
 ghost use Rattle.std.specs.List.{All};
 ghost use Rattle.speculation.specs.Run.{Piece};
 ghost use Rattle.speculation.specs.Core.{held_size, most_held};
@@ -8,18 +8,18 @@ ghost use Rattle.guest_model.specs.ByteMap.{mapped, bytes_from};
 ghost use Rattle.guest_model.specs.Registers.{IsRegFile};
 ghost use Rattle.guest_model.specs.MachineState.{MachineState};
 ghost use Rattle.guest_model.specs.Step.{step, at_call};
-ghost use Rattle.rv32_step.specs.RegisterSteps.{IsOther};
 ghost use Rattle.rv32_step.specs.Steps.{Steps};
 ghost use Rattle.paged_image.specs.Image.{content};
 ghost use Rattle.track_state.specs.Kept.{flat_state};
 ghost use Rattle.track_state.specs.Progress.{halts, held_piece, undone, IsProgress, KeepsPages};
 
-use crate::quiet::run_registers;
+use crate::memo::Memo;
+use crate::quiet::run_quietly;
 use crate::track::TrackState;
 use basic_types::NoMemory;
-use guest_model::{End, Instr, Regs};
+use guest_model::{End, Regs};
 use held_output::Held;
-use rv32_step::{END_DUAL_TRACK, FAST_TRACK, Stepped, at_call, step, step_other};
+use rv32_step::{END_DUAL_TRACK, FAST_TRACK, Stepped, at_call, step};
 use speculation::Kind;
 
 /// A track that holds so many bytes is run no further.
@@ -61,10 +61,10 @@ pub fn advance(
     ensures kept { KeepsPages state.old.memory state.new.memory }
 {
     let call = boundary_call(kind);
+    let mut memo = Memo::new();
     let mut taken = 0;
     'parts: while taken < limit {
-        let quiet = run_registers(state, limit - taken);
-        taken += quiet.taken;
+        taken += run_quietly(state, &mut memo, input, limit - taken);
         if taken == limit {
             return Progress::paused(limit, None, false);
         }
@@ -72,7 +72,7 @@ pub fn advance(
         if at_call(call, state) {
             return Progress::paused(taken, None, false);
         }
-        match take(quiet.next, state, input) {
+        match take(state, input) {
             Stepped::Next => {}
             Stepped::Wrote { stream, at, count } => {
                 match hold(kind, own + taken + 1, stream, at, count, state, held) {
@@ -114,24 +114,10 @@ fn boundary_call(kind: Kind) -> u32
     }
 }
 
-/// Takes the instruction at pc, which is `next` where that is known.
-#[inline(always)]
-fn take(next: Option<Instr>, state: &mut TrackState, input: &[u8]) -> Stepped
-    requires place { state.old.place ≤ length input.now }
-    requires next { IfSome next (λ i. IsOther (flat_state state.old) i) }
-    ensures means { let old = flat_state state.old in Steps true (step false input.now old) old (flat_state state.new) result }
-    ensures place { state.new.place ≤ length input.now }
-    ensures kept { KeepsPages state.old.memory state.new.memory }
-{
-    match next {
-        Some(instr) => step_other(instr, state, input, false),
-        None => take_any(state, input),
-    }
-}
-
-/// Takes the instruction at pc. Apart from `take`, so that the loop over instructions stays short.
+/// Takes the instruction at pc. Apart from `advance`, so that its loop stays short.
+#[cold]
 #[inline(never)]
-fn take_any(state: &mut TrackState, input: &[u8]) -> Stepped
+fn take(state: &mut TrackState, input: &[u8]) -> Stepped
     requires { state.old.place ≤ length input.now }
     ensures means { let old = flat_state state.old in Steps true (step false input.now old) old (flat_state state.new) result }
     ensures place { state.new.place ≤ length input.now }

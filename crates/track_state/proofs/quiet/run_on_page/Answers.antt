@@ -12,4 +12,4 @@ pub returns-in-Other-clause-next : goal.returns-in-Other-clause-next
 returns-in-Other-clause-next c = λ place heap. let h = c.in-Other.ensures place heap in rw h.1 h.0
 
 pub loop-taken-preserved : goal.loop-taken-preserved
-loop-taken-preserved c = quiet-more (content c.args.memory.now) c.args.regs.now c.loop-taken.regs c.step_registers.new.regs c.loop-taken.taken c.loop-taken.invariant c.in-Next.ensures
+loop-taken-preserved c = quiet-more (content c.args.memory.now) c.args.regs.now c.loop-taken.regs c.step_decoded.new.regs c.loop-taken.taken c.loop-taken.invariant c.in-Next.ensures
