@@ -1,9 +1,15 @@
-ghost use Rattle.std.specs.Prelude.{◌≡◌, ◌+◌, ◌%◌, ◌^◌, ◌≤◌, IfOk};
+ghost use Rattle.std.specs.Prelude.{◌≡◌, ◌+◌, ◌%◌, ◌^◌, ◌≤◌, IfOk, IfSome};
+ghost use Rattle.rv32_step.specs.Decoded.{instr_of};
+ghost use Rattle.rv32_step.specs.RegisterSteps.{StandsAt};
 
 use super::step;
 use crate::calls::{at_end, at_fast};
+use crate::decoded::Decoded;
+use crate::decoded_step::step_decoded;
+use crate::on_registers::RegisterStep;
 use crate::stepped::Stepped;
 use guest_model::{Area, Bytes, End, FlatMemory, Heap, Memory, NoMemory, Regs, State, Trap};
+use rv32_decode::decode;
 use std::alloc::Global;
 use std::test::Fail;
 
@@ -66,6 +72,45 @@ fn computes_operations(rt: HostRuntime) -> Result<(), Fail> {
         assert_eq!(rt; step(&mut state, b"".as_slice(), false), Stepped::Next);
         assert_eq!(rt; state.regs.get(10), want, "{word:08x} of {a1} and {a2}");
         assert_eq!(rt; state.regs.pc(), CODE + 4);
+    }
+    Ok(())
+}
+
+fn decoded_at<M: Memory>(state: &State<M>) -> Option<Decoded>
+    ensures { IfSome result (λ decoded. StandsAt (M.bytes state.now.memory) state.now.regs.pc (instr_of decoded)) }
+{
+    let word = state.memory.load32(state.regs.pc())?;
+    Some(Decoded::of(decode(word)?))
+}
+
+/// The word of an instruction that is carried out in its decoded form, a0 and pc after it, where a0 was 0, a1 the address of the
+/// word and a2 less by one.
+#[test]
+fn carries_out_decoded_instructions(rt: HostRuntime) -> Result<(), Fail> {
+    for (word, a0, pc) in [
+        (0x1234_5537, 0x1234_5000, CODE + 4), // lui a0, 0x12345
+        (0x0000_1517, CODE + 0x1000, CODE + 4), // auipc a0, 1
+        (0x0080_056F, CODE + 4, CODE + 8), // jal a0, 8
+        (0x0015_8567, CODE + 4, CODE), // jalr a0, 1(a1)
+        (0x00C5_9463, 0, CODE + 8), // bne a1, a2, 8
+        (0x0005_D503, 0xD503, CODE + 4), // lhu a0, 0(a1)
+        (0xFFF5_8513, CODE - 1, CODE + 4), // addi a0, a1, -1
+        (0x40C5_8533, 1, CODE + 4), // sub a0, a1, a2
+        (0x0FF0_000F, 0, CODE + 4), // fence
+    ] {
+        let mut state = machine_at(rt.alloc(), word, CODE, CODE_SIZE)?;
+        state.regs.set(11, CODE);
+        state.regs.set(12, CODE - 1);
+        let Some(decoded) = decoded_at(&state) else {
+            return Err(Fail::new("not decoded"));
+        };
+        assert_eq!(rt;
+            step_decoded(decoded, &mut state.regs, &state.memory),
+            RegisterStep::Next,
+            "{word:08x}"
+        );
+        assert_eq!(rt; state.regs.get(10), a0, "{word:08x}");
+        assert_eq!(rt; state.regs.pc(), pc, "{word:08x}");
     }
     Ok(())
 }
