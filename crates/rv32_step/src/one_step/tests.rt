@@ -83,8 +83,8 @@ fn decoded_at<M: Memory>(state: &State<M>) -> Option<Decoded>
     Some(Decoded::of(decode(word)?))
 }
 
-/// The word of an instruction that is carried out in its decoded form, a0 and pc after it, where a0 was 0, a1 the address of the
-/// word and a2 less by one.
+/// The word of an instruction that is carried out in its decoded form, and a0 and pc after it. Before it a0 is 0, a1 the
+/// address of the word, and a2 one less.
 #[test]
 fn carries_out_decoded_instructions(rt: HostRuntime) -> Result<(), Fail> {
     for (word, a0, pc) in [
