@@ -1,4 +1,4 @@
--- Runs of instructions that change registers alone
+-- Runs of instructions that are at no call and write to no stream
 use Rattle.std.proofs.Common.{◌≡◌, ℕ, ℤ, zero, suc, ◌+◌, ◌*◌, ◌<◌, ◌≤◌, ◌&&◌, true, false, List, [], ◌∷◌, Some, Result, Ok, Err, get_or, is_some, refl, sym, ap, ◌∙◌, subst, add-one, add-zero, arith}
 use Rattle.std.specs.Prelude.{◌==◌, slice_index, unwrap_or}
 use Rattle.std.specs.Int.{w32, from_le_bytes}
@@ -46,17 +46,10 @@ page-load m number pc offset page h at low =
     load-mapped w32 m pc bs all bytes
     ∙ ap (λ k. Some (from_le_bytes w32 (slice_index page k ∷ slice_index page (offset + 1) ∷ slice_index page (offset + 2) ∷ slice_index page (offset + 3) ∷ []))) (add-zero offset)
 
--- ---- one instruction more
+-- ---- one instruction more, and runs one behind the other
 
-pub quiet-none : (m : ByteMap) (f : RegFile) → QuietRegisters m f 0 f
-quiet-none m f = λ input place heap. refl
-
-pub quiet-more : (m : ByteMap) (f g h : RegFile) (n : ℕ) → QuietRegisters m f n g → ((place : ℕ) (heap : Heap) → StepsRegisters (seen m place heap g) h Next) → QuietRegisters m f (n + 1) h
-quiet-more m f g h n before last = λ input place heap.
-    let s = last place heap in
-    rw add-one (seen m place heap g, before input place heap, record { goes = s.0 false input; word = s.1 })
-
--- ---- runs one behind the other
+pub quiet-one : (input : List ℕ) (n : ℕ) (s t u : MachineState) → QuietSteps input s n t → IsQuiet input t u → QuietSteps input s (n + 1) u
+quiet-one input n s t u h last = rw add-one (t, h, last)
 
 pub quiet-append : (input : List ℕ) (n m : ℕ) (s t u : MachineState) → QuietSteps input s n t → QuietSteps input t m u → QuietSteps input s (n + m) u
 quiet-append input n zero s t u h e = subst (λ v. QuietSteps input s (n + 0) v) (sym e) (rw add-zero h)
@@ -64,8 +57,10 @@ quiet-append input n (suc m) s t u h (v, before, last) =
     let whole : suc (n + m) ≡ n + suc m = omega arith in
     subst (λ k. QuietSteps input s k u) whole (v, quiet-append input n m s t v h before, last)
 
-pub quiet-one : (input : List ℕ) (n : ℕ) (s t u : MachineState) → QuietSteps input s n t → IsQuiet input t u → QuietSteps input s (n + 1) u
-quiet-one input n s t u h last = rw add-one (t, h, last)
+pub quiet-more : (m : ByteMap) (f g h : RegFile) (n : ℕ) → QuietRegisters m f n g → ((place : ℕ) (heap : Heap) → StepsRegisters (seen m place heap g) h Next) → QuietRegisters m f (n + 1) h
+quiet-more m f g h n before last = λ input place heap.
+    let s = last place heap in
+    quiet-one input n (seen m place heap f) (seen m place heap g) (seen m place heap h) (before input place heap) (record { goes = s.0 false input; word = s.1 })
 
 -- ---- stores
 

@@ -1,4 +1,4 @@
--- Instructions that change registers alone
+-- Instructions that are at no call and write to no stream
 use Rattle.std.specs.Prelude.{◌≡◌, ℕ, zero, suc, false, List, []}
 use Rattle.std.specs.Int.{w32}
 use Rattle.speculation.specs.Machine.{Next}
@@ -8,7 +8,7 @@ use Rattle.guest_model.specs.MachineState.{MachineState}
 use Rattle.guest_model.specs.Step.{step, is_ecall}
 use Rattle.guest_model.specs.declared.state.Heap.{Heap}
 
--- the instruction of s leads to t, writes nothing and is no call
+-- the instruction of s leads to t, writes to no stream and is no call
 pub record IsQuiet (input : List ℕ) (s t : MachineState) : Type 0 where
   pub goes : step false input s ≡ Next t 1 []
   pub word : is_ecall (load w32 s.memory s.regs.pc) ≡ false
