@@ -27,9 +27,9 @@ use Rattle.guest_streams.specs.declared.fault.OutputFault.TheVariants.{Write, No
 use Rattle.guest_streams.proofs.OnStreams.{Gets-nothing, IsCalm-refl, marked-append, IsNext-marked, WritesPiece-on_notes, GetsAll-more, StopsShort-amid, GetsPart-more}
 use Rattle.track_board.specs.Value.{Posted}
 use Rattle.track_board.specs.declared.outcome.Outcome.{Outcome}
-use Rattle.worker_gate.specs.Conducting.{IsWhole, IsSameRun, Conducts, released_total}
-use Rattle.worker_gate.specs.declared.conducted.Conducted.{Conducted}
-use Rattle.worker_gate.specs.declared.conducted.Conducted.TheVariants as C
+use Rattle.serial_run.specs.Conducting.{IsWhole, IsSameRun, Conducts, released_total}
+use Rattle.serial_run.specs.declared.conducted.Conducted.{Conducted}
+use Rattle.serial_run.specs.declared.conducted.Conducted.TheVariants as C
 use Rattle.program_words.specs.declared.request.Task.{Task}
 use Rattle.program_words.specs.declared.request.Task.TheVariants.{Run, Bench}
 use Rattle.fasttrack_program.specs.declared.options.Options.{Options}

@@ -4,8 +4,8 @@ use Rattle.speculation.specs.declared.history.Entry.{Entry}
 use Rattle.elf32_loader.specs.declared.loaded.Loaded.{Loaded}
 use Rattle.guest_streams.specs.GuestStreams.{Sinks}
 use Rattle.track_board.specs.Value.{Posted}
-use Rattle.worker_gate.specs.Conducting.{Conducts}
-use Rattle.worker_gate.specs.declared.conducted.Conducted.{Conducted}
+use Rattle.serial_run.specs.Conducting.{Conducts}
+use Rattle.serial_run.specs.declared.conducted.Conducted.{Conducted}
 use Rattle.fasttrack_program.specs.TopCall.{settings_of}
 use Rattle.fasttrack_program.specs.declared.options.Options.{Options}
 

@@ -3,7 +3,7 @@
 ghost use Rattle.std.specs.Prelude.{◌≡◌, List, [], IfOk, IfSome};
 ghost use Rattle.speculation.specs.declared.history.Entry.{Entry};
 ghost use Rattle.track_board.specs.Value.{IsSettings};
-ghost use Rattle.worker_gate.specs.Conducting.{IsWhole};
+ghost use Rattle.serial_run.specs.Conducting.{IsWhole};
 ghost use Rattle.fasttrack_program.specs.TopCall.{settings_of};
 ghost use Rattle.fasttrack_program.specs.Tracks.{board_for, RunsTracks};
 
@@ -11,10 +11,10 @@ use crate::options::Options;
 use elf32_loader::Loaded;
 use guest_model::{Bytes, NoMemory};
 use host_io::{CountSink, Sink};
+use serial_run::{Conducted, conduct_serial};
 use std::alloc::Global;
 use std::sync::Arc;
 use track_board::{Board, Outcome, Settings};
-use worker_gate::{Conducted, conduct_serial};
 
 /// Runs the guest of an image with tracks on one thread, `out` for its stream 1 and `notes` for its stream 2.
 pub fn run_tracks<O: Sink, N: Sink>(

@@ -9,7 +9,7 @@ ghost use Rattle.region_ledger.specs.Ledger.{ledger_rows, totals_of, SavesAtMost
 ghost use Rattle.report_text.specs.Reports.{bench_lines};
 ghost use Rattle.rv32_asm.specs.Generated.{generated};
 ghost use Rattle.track_board.specs.Value.{IsSettings};
-ghost use Rattle.worker_gate.specs.Conducting.{released_total};
+ghost use Rattle.serial_run.specs.Conducting.{released_total};
 ghost use Rattle.fasttrack_program.specs.Plan.{bench_plan, bench_regions};
 ghost use Rattle.fasttrack_program.specs.Serving.{IsDone};
 ghost use Rattle.fasttrack_program.specs.TextOnSink.{WritesText};

@@ -23,9 +23,9 @@ use guest_model::Bytes;
 use guest_streams::OutputFault;
 use host_io::Sink;
 use region_ledger::{Finished, Row};
+use serial_run::Conducted;
 use std::alloc::Global;
 use track_board::{Entry, Outcome};
-use worker_gate::Conducted;
 
 /// Runs the guest with tracks on one thread, and writes the texts that are asked for on `notes` once its end was reached.
 /// The sinks get the output of the guest alone, and the answer is its end.

@@ -1,5 +1,5 @@
 use Rattle.std.proofs.Common.{◌≡◌, ◌+◌, drop}
-use Rattle.worker_gate.specs.Conducting.{released_total}
+use Rattle.serial_run.specs.Conducting.{released_total}
 use Rattle.fasttrack_program.proofs.show_bench.released_total.Given as goal
 
 abbrev pub invariant-loop-entry : goal.invariant-loop-entry

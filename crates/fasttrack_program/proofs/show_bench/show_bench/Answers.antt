@@ -3,7 +3,7 @@ use Rattle.std.specs.Prelude.{All}
 use Rattle.speculation.specs.Ledger.{originals}
 use Rattle.region_ledger.specs.Ledger.{ledger_rows, totals_of, SavesAtMostAll}
 use Rattle.guest_streams.specs.GuestStreams.{Sinks}
-use Rattle.worker_gate.specs.Conducting.{released_total}
+use Rattle.serial_run.specs.Conducting.{released_total}
 use Rattle.program_words.specs.declared.request.Task.TheVariants.{Bench}
 use Rattle.fasttrack_program.specs.Plan.{bench_plan}
 use Rattle.fasttrack_program.specs.Serving.{IsDone}

@@ -1,6 +1,6 @@
 use Rattle.track_board.proofs.Settling.{weight_of}
-use Rattle.worker_gate.specs.Rounds.{GoesOn}
-use Rattle.worker_gate.proofs.serial.go_rounds.Given as goal
+use Rattle.serial_run.specs.Rounds.{GoesOn}
+use Rattle.serial_run.proofs.serial.go_rounds.Given as goal
 
 abbrev pub invariant-loop : goal.invariant-loop
 invariant-loop g l =

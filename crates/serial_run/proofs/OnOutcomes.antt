@@ -23,11 +23,11 @@ use Rattle.track_board.specs.Value.{Posted, GuestCore, IsKnown, machine_of, star
 use Rattle.track_board.specs.Settles.{Settles, due_of, verified_of, released_with, finish_of, IsOutcome}
 use Rattle.track_board.proofs.Foundation.{core-legal}
 use Rattle.track_board.proofs.Settling.{weight_of}
-use Rattle.worker_gate.specs.Conducting.{alone_of, IsSameRun, IsWhole, Conducts}
-use Rattle.worker_gate.specs.Rounds.{TakesVerified, SettlesSome, CanLend, RunsSlice, SliceFails, IsUnderway, GoesBy, GoesOn, IsAtEnd, ReleaseFails, LosesSlice, NextFails, Breaks, IsRound, answer_to}
-use Rattle.worker_gate.specs.Failures.{ended, IsWritten, AfterWriteFault, AfterNoMemory, AfterFailure}
-use Rattle.worker_gate.proofs.Releases.{total-run}
-use Rattle.worker_gate.proofs.OnRounds.{exact-of, sound-of, Extends, extends-known, quietly, quiet-released, extends-none, settles-quiet, settles-by, release-follows, slice-follows, slice-next, solo-of, by-carries, by-extends, by-known, by-more, at-end, can-lend, TakenRounds, taken-rounds, slice-quiet}
+use Rattle.serial_run.specs.Conducting.{alone_of, IsSameRun, IsWhole, Conducts}
+use Rattle.serial_run.specs.Rounds.{TakesVerified, SettlesSome, CanLend, RunsSlice, SliceFails, IsUnderway, GoesBy, GoesOn, IsAtEnd, ReleaseFails, LosesSlice, NextFails, Breaks, IsRound, answer_to}
+use Rattle.serial_run.specs.Failures.{ended, IsWritten, AfterWriteFault, AfterNoMemory, AfterFailure}
+use Rattle.serial_run.proofs.Releases.{total-run}
+use Rattle.serial_run.proofs.OnRounds.{exact-of, sound-of, Extends, extends-known, quietly, quiet-released, extends-none, settles-quiet, settles-by, release-follows, slice-follows, slice-next, solo-of, by-carries, by-extends, by-known, by-more, at-end, can-lend, TakenRounds, taken-rounds, slice-quiet}
 
 -- ---- one run
 

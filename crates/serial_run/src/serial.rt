@@ -4,9 +4,9 @@ ghost use Rattle.std.specs.Prelude.{◌≡◌, [], true, MatchResult};
 ghost use Rattle.speculation.specs.Core.{over};
 ghost use Rattle.guest_streams.specs.GuestStreams.{WritesPiece};
 ghost use Rattle.track_board.specs.Value.{IsKnown, core_of};
-ghost use Rattle.worker_gate.specs.Conducting.{IsSameRun, Conducts};
-ghost use Rattle.worker_gate.specs.Failures.{AfterFailure};
-ghost use Rattle.worker_gate.specs.Rounds.{TakesVerified, SettlesSome, CanLend, RunsSlice, SliceFails, IsUnderway, RoundIs, RoundsAre, answer_to};
+ghost use Rattle.serial_run.specs.Conducting.{IsSameRun, Conducts};
+ghost use Rattle.serial_run.specs.Failures.{AfterFailure};
+ghost use Rattle.serial_run.specs.Rounds.{TakesVerified, SettlesSome, CanLend, RunsSlice, SliceFails, IsUnderway, RoundIs, RoundsAre, answer_to};
 
 use crate::conducted::Conducted;
 use basic_types::NoMemory;

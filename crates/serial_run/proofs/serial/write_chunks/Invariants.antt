@@ -1,7 +1,7 @@
 use Rattle.std.proofs.Common.{take}
 use Rattle.held_output.specs.Chunks.{chunk_marks}
 use Rattle.guest_streams.specs.GuestStreams.{GetsAll}
-use Rattle.worker_gate.proofs.serial.write_chunks.Given as goal
+use Rattle.serial_run.proofs.serial.write_chunks.Given as goal
 
 abbrev pub invariant-loop-chunk : goal.invariant-loop-chunk
 invariant-loop-chunk g l =

@@ -4,9 +4,9 @@ use Rattle.speculation.specs.declared.history.Entry.TheVariants as E
 use Rattle.speculation_law.specs.Serial.{IsSerialSoFar}
 use Rattle.guest_streams.specs.GuestStreams.{Sinks, GetsAll}
 use Rattle.track_board.specs.Value.{Posted, machine_of, start_state, core_of, posted}
-use Rattle.worker_gate.specs.declared.conducted.Conducted.{Conducted}
-use Rattle.worker_gate.specs.declared.conducted.Conducted.TheVariants.{Done, WriteFault, NoMemory}
-use Rattle.worker_gate.specs.Rounds.{ReleaseFails, LosesSlice}
+use Rattle.serial_run.specs.declared.conducted.Conducted.{Conducted}
+use Rattle.serial_run.specs.declared.conducted.Conducted.TheVariants.{Done, WriteFault, NoMemory}
+use Rattle.serial_run.specs.Rounds.{ReleaseFails, LosesSlice}
 
 -- seat 0 halts the run, unless it has a finish
 abbrev pub ended : Posted → Posted

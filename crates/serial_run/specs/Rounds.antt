@@ -15,9 +15,9 @@ use Rattle.track_board.specs.Value.{Posted, machine_of, start_state, core_of, po
 use Rattle.track_board.specs.Loans.{oldest_lendable}
 use Rattle.track_board.specs.Settles.{Settles, due_of, verified_of, released_with, IsOutcome}
 use Rattle.track_board.specs.Others.{extended}
-use Rattle.worker_gate.specs.declared.conducted.Conducted.{Conducted}
-use Rattle.worker_gate.specs.declared.conducted.Conducted.TheVariants.{WriteFault}
-use Rattle.worker_gate.specs.declared.conducted.Conducted.TheVariants as C
+use Rattle.serial_run.specs.declared.conducted.Conducted.{Conducted}
+use Rattle.serial_run.specs.declared.conducted.Conducted.TheVariants.{WriteFault}
+use Rattle.serial_run.specs.declared.conducted.Conducted.TheVariants as C
 
 -- ---- the steps of a round
 

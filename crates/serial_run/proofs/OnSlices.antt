@@ -18,8 +18,8 @@ use Rattle.track_board.specs.declared.loan.Back.TheVariants.{Taken}
 use Rattle.track_board.specs.Value.{Posted, GuestCore, IsKnown, machine_of, core_of, posted}
 use Rattle.track_board.specs.Loans.{oldest_lendable, IsLent, IsReturned, WasDropped, back_by, back_entry}
 use Rattle.track_board.proofs.Foundation.{posted-core}
-use Rattle.worker_gate.specs.Rounds.{RunsSlice, GivesUp}
-use Rattle.worker_gate.proofs.OnRounds.{sound-of, extends-known, extended-twice}
+use Rattle.serial_run.specs.Rounds.{RunsSlice, GivesUp}
+use Rattle.serial_run.proofs.OnRounds.{sound-of, extends-known, extended-twice}
 
 module _ (v w : Posted) (loan : Loan) (known : IsKnown w) (lent : IsLent v w 0 loan) where
   before : IsKnown v

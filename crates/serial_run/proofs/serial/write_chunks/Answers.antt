@@ -1,6 +1,6 @@
 use Rattle.std.proofs.lemmas.Result.{err_from_is_err_and}
-use Rattle.worker_gate.proofs.OnChunks.{chunks-more, chunks-short}
-use Rattle.worker_gate.proofs.serial.write_chunks.Goals as goal
+use Rattle.serial_run.proofs.OnChunks.{chunks-more, chunks-short}
+use Rattle.serial_run.proofs.serial.write_chunks.Goals as goal
 
 pub loop-chunk-preserved : goal.loop-chunk-preserved
 loop-chunk-preserved g c =

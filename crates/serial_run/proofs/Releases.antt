@@ -11,7 +11,7 @@ use Rattle.speculation.specs.Due.{Due, Finishing, Crossing, Judging, Forking}
 use Rattle.speculation.specs.Events.{gone_live, released_by, released_core, is_entry_of, event, core_run}
 use Rattle.speculation_law.proofs.Happens.{Happens, Lends, Returns, Vanishes, Releases, Halts, Does, event-happens}
 use Rattle.speculation_law.proofs.Prefixes.{released-due}
-use Rattle.worker_gate.specs.Conducting.{released_total}
+use Rattle.serial_run.specs.Conducting.{released_total}
 
 -- an entry that releases nothing
 abbrev pub IsQuiet : Entry → Type 0

@@ -32,8 +32,8 @@ use Rattle.track_board.specs.Settles.{Acted, Settles, due_of, verified_of, relea
 use Rattle.track_board.specs.Others.{extended}
 use Rattle.track_board.proofs.Foundation.{core-legal, legal-known}
 use Rattle.track_board.proofs.Settling.{weight_of}
-use Rattle.worker_gate.specs.Rounds.{TakesVerified, SettlesSome, CanLend, slice_entries, RunsSlice, IsUnderway, IsNext, GoesBy, IsAtEnd}
-use Rattle.worker_gate.proofs.Releases.{IsQuiet, AreQuiet, quiet-append, quiet-run, release-core, released_core-released}
+use Rattle.serial_run.specs.Rounds.{TakesVerified, SettlesSome, CanLend, slice_entries, RunsSlice, IsUnderway, IsNext, GoesBy, IsAtEnd}
+use Rattle.serial_run.proofs.Releases.{IsQuiet, AreQuiet, quiet-append, quiet-run, release-core, released_core-released}
 
 -- ---- what is known of every board
 

@@ -1,7 +1,7 @@
 use Rattle.std.proofs.Common.{sym, ◌∙◌}
-use Rattle.worker_gate.proofs.OnChunks.{none-bytes, some-bytes}
-use Rattle.worker_gate.proofs.OnOutcomes.{round-untaken, round-unwritten, round-last, round-released, round-can_lend, round-slice, round-fails}
-use Rattle.worker_gate.proofs.serial.go_round.Goals as goal
+use Rattle.serial_run.proofs.OnChunks.{none-bytes, some-bytes}
+use Rattle.serial_run.proofs.OnOutcomes.{round-untaken, round-unwritten, round-last, round-released, round-can_lend, round-slice, round-fails}
+use Rattle.serial_run.proofs.serial.go_round.Goals as goal
 
 pub returns-in_default-clause-round : goal.returns-in_default-clause-round
 returns-in_default-clause-round g c = round-untaken c.args.board.now c.take_verified.new.board _ c.in_default.ensures.taken c.take_verified.ensures.known c.requires

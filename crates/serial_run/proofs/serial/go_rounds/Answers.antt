@@ -1,6 +1,6 @@
 use Rattle.std.proofs.lemmas.Result.{err_from_is_err_and}
-use Rattle.worker_gate.proofs.OnOutcomes.{on-first, on-breaks, rounds-fall, rounds-on, rounds-end, rounds-refused}
-use Rattle.worker_gate.proofs.serial.go_rounds.Goals as goal
+use Rattle.serial_run.proofs.OnOutcomes.{on-first, on-breaks, rounds-fall, rounds-on, rounds-end, rounds-refused}
+use Rattle.serial_run.proofs.serial.go_rounds.Goals as goal
 
 pub loop-init : goal.loop-init
 loop-init g c = on-first c.args.board.now _ c.requires

@@ -2,8 +2,8 @@ use Rattle.std.proofs.Common.{inr, Option, subst}
 use Rattle.track_board.specs.declared.loan.Loan.{Loan}
 use Rattle.track_board.specs.Loans.{LendIs}
 use Rattle.track_board.proofs.Seats.{lent-home}
-use Rattle.worker_gate.proofs.OnSlices.{slice-home, slice-lost, slice-taken}
-use Rattle.worker_gate.proofs.serial.run_slice.Goals as goal
+use Rattle.serial_run.proofs.OnSlices.{slice-home, slice-lost, slice-taken}
+use Rattle.serial_run.proofs.serial.run_slice.Goals as goal
 
 pub back-requires-clause-ran : goal.back-requires-clause-ran
 back-requires-clause-ran c = (lent-home c.args.board.now c.lend.new.self 0 c.in-Some.loan c.run.new.self c.in-Ok.field-0

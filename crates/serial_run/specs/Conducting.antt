@@ -13,8 +13,8 @@ use Rattle.guest_streams.specs.GuestStreams.{Sinks, GetsAll, GetsPart, StopsShor
 use Rattle.track_board.specs.declared.outcome.Outcome.{Outcome}
 use Rattle.track_board.specs.Value.{Posted, machine_of, start_state}
 use Rattle.track_board.specs.Settles.{verified_of, IsOutcome}
-use Rattle.worker_gate.specs.declared.conducted.Conducted.{Conducted}
-use Rattle.worker_gate.specs.declared.conducted.Conducted.TheVariants.{Done, WriteFault, NoMemory}
+use Rattle.serial_run.specs.declared.conducted.Conducted.{Conducted}
+use Rattle.serial_run.specs.declared.conducted.Conducted.TheVariants.{Done, WriteFault, NoMemory}
 
 -- the program of a board, alone within the budget
 abbrev pub alone_of : Posted → Ran MachineState End

@@ -1,6 +1,6 @@
-use Rattle.worker_gate.proofs.OnRounds.{by-extends}
-use Rattle.worker_gate.proofs.OnOutcomes.{underway-first, extends-same, on-whole, failed-conducts, failed-same, failed-after}
-use Rattle.worker_gate.proofs.serial.conduct_serial.Goals as goal
+use Rattle.serial_run.proofs.OnRounds.{by-extends}
+use Rattle.serial_run.proofs.OnOutcomes.{underway-first, extends-same, on-whole, failed-conducts, failed-same, failed-after}
+use Rattle.serial_run.proofs.serial.conduct_serial.Goals as goal
 
 pub go_rounds-requires : goal.go_rounds-requires
 go_rounds-requires g c = underway-first c.args.board.now c.requires.fresh
