@@ -5,25 +5,31 @@ from __future__ import annotations
 import os
 import sys
 from pathlib import Path
-from typing import Callable
+from typing import Callable, TypeVar
 
-from .history import Impossible
 from .lines import BadText
 
 STATUS_FAULT = 2
+
+Told = TypeVar("Told")
 
 
 class Fault(Exception):
     """A fault of what was handed in, as it is to be told."""
 
 
-def read_text(path: str) -> str:
-    """The text of a file, or of standard input for `-`. Bytes that are no text are shown by their numbers."""
+def read_told(path: str, read: Callable[[str], Told]) -> Told:
+    """What is read of the text of a file, or of standard input for `-`. A bad line is told with the file's name.
+
+    Bytes that are no text are read, and shown, as their numbers."""
     try:
         data = sys.stdin.buffer.read() if path == "-" else Path(path).read_bytes()
     except OSError as error:
         raise Fault(f"{path}: {error.strerror}") from error
-    return data.decode("utf-8", "backslashreplace")
+    try:
+        return read(data.decode("utf-8", "backslashreplace"))
+    except BadText as bad:
+        raise Fault(f"{'standard input' if path == '-' else path}, {bad}") from bad
 
 
 def write_text(path: str, text: str) -> None:
@@ -35,12 +41,12 @@ def write_text(path: str, text: str) -> None:
 
 
 def run_command(name: str, command: Callable[[], int]) -> int:
-    """The status of a command; what it raises of a fault is told on standard error."""
+    """The status of a command. A fault is told on standard error; a reader that went away ends it as well."""
     try:
         status = command()
         sys.stdout.flush()
         return status
-    except (Fault, BadText, Impossible) as fault:
+    except Fault as fault:
         print(f"{name}: {fault}", file=sys.stderr)
     except BrokenPipeError:
         os.dup2(os.open(os.devnull, os.O_WRONLY), sys.stdout.fileno())

@@ -58,11 +58,12 @@ class _Region:
 
 @dataclass
 class History:
-    """A replayed journal. `open_regions` has the number of open regions behind each entry."""
+    """A replayed journal. `open_regions` has the number of open regions behind each entry; `ending` is in words."""
 
     entries: List[Entry]
     loans: List[Loan]
     open_regions: List[int]
+    ending: str
 
     @property
     def seats(self) -> List[int]:
@@ -85,16 +86,6 @@ class History:
     def released(self) -> int:
         """The bytes that were handed out."""
         return sum(entry.bytes for entry in self.entries if isinstance(entry, Release))
-
-    @property
-    def ending(self) -> str:
-        """How the journal ends, in words."""
-        for entry in self.entries:
-            if isinstance(entry, Finish):
-                return "finished"
-            if isinstance(entry, Halt):
-                return f"given up by seat {entry.seat}"
-        return "without an end"
 
 
 class Impossible(Exception):
@@ -134,6 +125,7 @@ class _Replay:
         self.rows = 0
         self.regions: OrderedDict[int, _Region] = OrderedDict()
         self.index = 0
+        self.ending = ""
 
     @property
     def youngest(self) -> Optional[_Region]:
@@ -148,7 +140,7 @@ class _Replay:
         elif isinstance(entry, Back):
             self._back(entry)
         elif isinstance(entry, Gone):
-            self._home(entry.name)
+            self._gone(entry.name)
         elif isinstance(entry, Fork):
             self._fork(entry.name)
         elif isinstance(entry, Cross):
@@ -157,6 +149,14 @@ class _Replay:
             self._keep(entry.row)
         elif isinstance(entry, Discard):
             self._discard(entry.row)
+        elif isinstance(entry, Finish):
+            self._end("finished")
+        elif isinstance(entry, Halt):
+            self._end(f"given up by seat {entry.seat}")
+
+    def _end(self, words: str) -> None:
+        """The first thing that ends a run is its end."""
+        self.ending = self.ending or words
 
     def _require(self, holds: bool, reason: str) -> None:
         if not holds:
@@ -195,6 +195,11 @@ class _Replay:
         loan = self._home(entry.name)
         self._require(loan.fate is not Fate.THROWN, f"{entry.name} was thrown away, so it can only be gone")
         loan.count = entry.count
+
+    def _gone(self, name: Name) -> None:
+        loan = self._home(name)
+        if loan.fate is not Fate.THROWN:
+            self._end(f"given up as {name} is gone")
 
     def _fork(self, name: Name) -> None:
         self.last_region += 1
@@ -249,4 +254,4 @@ def replay(entries: List[Entry]) -> History:
     for index, entry in enumerate(entries):
         state.step(index, entry)
         open_regions.append(len(state.regions))
-    return History(entries, state.loans, open_regions)
+    return History(entries, state.loans, open_regions, state.ending or "without an end")

@@ -3,7 +3,7 @@
 from __future__ import annotations
 
 from dataclasses import dataclass
-from typing import Dict, List, Sequence
+from typing import Dict, List, Sequence, Tuple
 
 from .canvas import Box, Canvas
 from .history import Fate, History, Loan, Part
@@ -256,7 +256,7 @@ def _bar_label(canvas: Canvas, name: str, count: str, box: Box) -> None:
             canvas.text(x + width / 2, base, words, "name")
 
 
-def _event(canvas: Canvas, entry: Entry, panel: _Panel, index: int, board: float, lanes: tuple[float, float]) -> None:
+def _event(canvas: Canvas, entry: Entry, panel: _Panel, index: int, board: float, lanes: Tuple[float, float]) -> None:
     """The sign of an event of the board, its label, and the line through all lanes where it ends tracks."""
     if type(entry) not in EVENT_STYLE:
         return
@@ -287,7 +287,7 @@ def _binned(canvas: Canvas, bins: Bins, y: float) -> float:
     canvas.text(
         LEFT,
         y + 4,
-        f"A column is {bins.width:,} entries. The height on a seat is the instructions that came home there: "
+        f"A column is {bins.width:,} entries: a journal has no times. The height on a seat is the instructions that came home there: "
         f"the whole lane is {bins.most_work:,}.",
     )
     y += 24
@@ -307,7 +307,7 @@ def _binned(canvas: Canvas, bins: Bins, y: float) -> float:
     return y
 
 
-def _bin_row(canvas: Canvas, row: tuple[str, str], counts: Sequence[int], step: float, y: float) -> float:
+def _bin_row(canvas: Canvas, row: Tuple[str, str], counts: Sequence[int], step: float, y: float) -> float:
     """A row of the board: its label and style, and a height for each bin."""
     label, style = row
     most = max(counts)
@@ -321,10 +321,10 @@ def _bin_row(canvas: Canvas, row: tuple[str, str], counts: Sequence[int], step: 
     return y + 22
 
 
-def _work(canvas: Canvas, cells: Sequence[dict], scale: float, step: float, base: float) -> None:
+def _work(canvas: Canvas, cells: Sequence[Dict[Tuple[Part, Fate], int]], scale: float, step: float, base: float) -> None:
     """The instructions of one lane, stacked by part and fate; those thrown away stand on top."""
     kinds = [(part, fate) for fate in (Fate.KEPT, Fate.OPEN, Fate.THROWN) for part in Part]
-    stacked: Dict[object, List[Box]] = {kind: [] for kind in kinds}
+    stacked: Dict[Tuple[Part, Fate], List[Box]] = {kind: [] for kind in kinds}
     for place, cell in enumerate(cells):
         y = base
         for kind in kinds:

@@ -2,7 +2,7 @@
 
 from __future__ import annotations
 
-from typing import List, Sequence, Tuple
+from typing import Dict, List, Sequence, Tuple
 
 from .history import Fate, History, Loan, Part
 from .journal import Cross, Discard, Entry, Finish, Fork, Halt, Keep, Release
@@ -23,7 +23,7 @@ EVENT_LETTER = {Fork: "F", Cross: "C", Keep: "K", Discard: "D", Release: "R", Fi
 WIDE_LEGEND = """\
 The columns are the entries in their order: a journal has no times. A bar goes from lend to return, and has the track's
 name and its instructions; it is filled with = where they were kept, x thrown away, ? not judged, and . where the track
-did not come back. 'discard' throws away all tracks of the regions from its own on but the own original."""
+did not come back. A discard throws away the region's fast version and all tracks that go on from it."""
 
 NARROW_LEGEND = """\
 A column is an entry: a journal has no times. Board: F fork, C crossing, K keep, D discard, R release, E finish, H halt.
@@ -34,7 +34,7 @@ instructions were kept, x thrown away, ? not judged, and . where the track did n
 def lanes_text(history: History) -> str:
     """The picture, with a line feed behind each line."""
     entries = len(history.entries)
-    lines = summary(history) + [""]
+    lines = [line for told in summary(history) for line in _wrapped(told)] + [""]
     if entries <= MOST_NARROW:
         cell = WIDE if entries <= MOST_WIDE else 1
         for first, end in panels(entries, COLUMNS // cell):
@@ -46,10 +46,10 @@ def lanes_text(history: History) -> str:
     return "".join(line.rstrip() + "\n" for line in lines)
 
 
-def _wrapped(legend: str) -> List[str]:
-    """The words of a legend in lines of at most 100 columns."""
+def _wrapped(text: str) -> List[str]:
+    """The words of a text in lines of at most 100 columns."""
     lines = [""]
-    for word in legend.split():
+    for word in text.split():
         if len(lines[-1]) + 1 + len(word) > MARGIN + COLUMNS:
             lines.append("")
         lines[-1] = f"{lines[-1]} {word}".lstrip()
@@ -182,7 +182,7 @@ def _ninths(values: Sequence[int]) -> str:
     return "".join(str(_level(value, most)) if value else "." for value in values)
 
 
-def _work_cell(cell: dict[Tuple[Part, Fate], int], most: int) -> str:
+def _work_cell(cell: Dict[Tuple[Part, Fate], int], most: int) -> str:
     total = sum(cell.values())
     if total == 0:
         return "."

@@ -21,27 +21,53 @@ _BEGINNING = re.compile(
 
 
 @dataclass(frozen=True)
-class Notes:
-    """A report, if there is one, and the entries of the journal behind it."""
+class Journal:
+    """The entries of a journal, at least one, and the number of the line of the first."""
 
-    report: Optional[Report]
-    journal: List[Entry]
-    first_entry_line: int
+    entries: List[Entry]
+    first_line: int
 
 
-def read_notes(text: str, after_guest: bool = False) -> Notes:
-    """What the text holds. Raises BadText at the first line that has no place in it.
-
-    With `after_guest` all before the first line of a report or a journal is passed over."""
+def _lines(text: str, after_guest: bool) -> Lines:
     lines = Lines(text)
     if after_guest:
         lines.pass_to(_BEGINNING)
-    report = read_report(lines) if begins_report(lines.next()) else None
-    first_entry_line = lines.number
-    journal = read_journal(lines)
+    return lines
+
+
+def _optional_report(lines: Lines) -> Optional[Report]:
+    return read_report(lines) if begins_report(lines.next()) else None
+
+
+def _end(lines: Lines) -> None:
+    """Nothing but the line of an answer may stand here."""
     answer = lines.next()
-    if (report or journal) and answer is not None and _ANSWER.fullmatch(answer):
+    if answer is not None and _ANSWER.fullmatch(answer):
         lines.advance()
     if lines.next() is not None:
-        raise lines.bad("no entry of a journal" if report or journal else "no line of a report or a journal")
-    return Notes(report, journal, first_entry_line)
+        raise lines.bad("no entry of a journal")
+
+
+def report_in(text: str, after_guest: bool = False) -> Report:
+    """The report in the text. Raises BadText at the first line that has no place in it.
+
+    With `after_guest` all before the first line of a report or a journal is passed over."""
+    lines = _lines(text, after_guest)
+    report = _optional_report(lines)
+    if report is None:
+        raise lines.bad("no report begins here (fasttrack trial IMAGE prints one)")
+    read_journal(lines)
+    _end(lines)
+    return report
+
+
+def journal_in(text: str, after_guest: bool = False) -> Journal:
+    """The journal in the text, behind the report where there is one. Raises BadText as `report_in` does."""
+    lines = _lines(text, after_guest)
+    _optional_report(lines)
+    first_line = lines.number
+    entries = read_journal(lines)
+    if not entries:
+        raise lines.bad("no journal begins here (fasttrack run IMAGE --journal prints one)")
+    _end(lines)
+    return Journal(entries, first_line)
