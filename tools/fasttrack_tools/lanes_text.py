@@ -2,11 +2,12 @@
 
 from __future__ import annotations
 
-from typing import Dict, List, Sequence, Tuple
+from typing import List, Sequence
 
 from .history import Fate, History, Loan, Part
 from .journal import Cross, Discard, Entry, Finish, Fork, Halt, Keep, Release
-from .layout import Lane, bins_of, lane_label, lanes_left_out, lanes_of, panels, summary
+from .layout import Lane, Work, bins_of, lane_label, lanes_left_out, lanes_of, panels
+from .summary import summary
 
 MARGIN = 12
 COLUMNS = 88
@@ -108,8 +109,8 @@ def _event_text(entry: Entry) -> str:
 
 
 def _event_words(entries: Sequence[Entry]) -> str:
-    """The texts of the board's own entries. One that is too long goes on into the next cell where that is empty, and else
-    is its word alone."""
+    """The texts of the board's own entries, a cell each. One that is too long goes on into the next cell where that is
+    empty, and else is its word alone."""
     line = ""
     texts = [_event_text(entry) for entry in entries]
     for place, text in enumerate(texts):
@@ -182,7 +183,7 @@ def _ninths(values: Sequence[int]) -> str:
     return "".join(str(_level(value, most)) if value else "." for value in values)
 
 
-def _work_cell(cell: Dict[Tuple[Part, Fate], int], most: int) -> str:
+def _work_cell(cell: Work, most: int) -> str:
     total = sum(cell.values())
     if total == 0:
         return "."

@@ -6,16 +6,20 @@ from dataclasses import dataclass
 from typing import Dict, List, Tuple
 
 from .history import Fate, History, Loan, Part
-from .journal import Cross, Discard, Finish, Fork, Gone, Halt, Keep, Release
+from .journal import Cross, Discard, Fork, Keep, Release
 
 # A run has at most 64 workers beside its own thread, so no journal of a run has more lanes.
 MOST_LANES = 65
 
+# A seat and its slot.
 Lane = Tuple[int, int]
+
+# Instructions by what a track ran and by what became of it.
+Work = Dict[Tuple[Part, Fate], int]
 
 
 def lanes_of(history: History) -> Dict[Lane, List[Loan]]:
-    """The loans of each lane, which is a seat and its slot, in the order of seats: at most MOST_LANES of them."""
+    """The loans of each lane, in the order of seats: at most MOST_LANES of them."""
     lanes: Dict[Lane, List[Loan]] = {}
     for loan in history.loans:
         lanes.setdefault((loan.seat, loan.slot), []).append(loan)
@@ -34,7 +38,7 @@ def lane_label(lane: Lane) -> str:
 
 
 def panels(entries: int, width: int, even: bool = False) -> List[Tuple[int, int]]:
-    """The entries from and up to which each panel goes: at most `width`, or, where it is to be even, as many in each."""
+    """The entries from and up to which each panel goes: at most `width`, and about as many in each if `even`."""
     if even:
         width = -(-entries // -(-entries // width))
     return [(first, min(first + width, entries)) for first in range(0, entries, width)]
@@ -61,7 +65,7 @@ class Bins:
     number: int
     events: Dict[str, List[int]]
     open_regions: List[int]
-    work: Dict[Lane, List[Dict[Tuple[Part, Fate], int]]]
+    work: Dict[Lane, List[Work]]
 
     @property
     def most_work(self) -> int:
@@ -81,44 +85,15 @@ def bins_of(history: History, most: int) -> Bins:
         if type(entry) in labels:
             events[labels[type(entry)]][place] += 1
         open_regions[place] = max(open_regions[place], history.open_regions[index])
-    work: Dict[Lane, List[Dict[Tuple[Part, Fate], int]]] = {}
-    for lane, loans in lanes_of(history).items():
-        cells: List[Dict[Tuple[Part, Fate], int]] = [{} for _ in range(number)]
-        for loan in loans:
-            if loan.last is not None and loan.count:
-                cell = cells[loan.last // width]
-                cell[loan.part, loan.fate] = cell.get((loan.part, loan.fate), 0) + loan.count
-        work[lane] = cells
+    work = {lane: _work_of(loans, width, number) for lane, loans in lanes_of(history).items()}
     return Bins(width, number, events, open_regions, work)
 
 
-def plural(number: int, word: str) -> str:
-    """The number and its word."""
-    return f"{number:,} {word}" if number == 1 else f"{number:,} {word}s"
-
-
-def summary(history: History) -> List[str]:
-    """What both pictures say in words: how the journal ends, its events, and its instructions."""
-    gone = history.number_of(Gone)
-    out = sum(loan.last is None for loan in history.loans)
-    lost = f", {gone:,} of them gone" if gone else ""
-    lost += f", {out:,} still lent at the end" if out else ""
-    crossings = plural(history.number_of(Cross), "crossing")
-    parts = ", ".join(f"{_PARTS[part]} {history.instructions(part=part):,}" for part in Part)
-    fates = ", ".join(f"{fate.value} {history.instructions(fate=fate):,}" for fate in Fate)
-    return [
-        f"Journal of {len(history.entries):,} entries, {history.ending}: "
-        f"{plural(len(history.seats), 'seat')}, {plural(len(history.loans), 'loan')}{lost}",
-        f"{plural(history.number_of(Fork), 'fork')}, {crossings}, {plural(history.number_of(Keep), 'keep')}, "
-        f"{plural(history.number_of(Discard), 'discard')}; {plural(history.released, 'byte')} "
-        f"in {plural(history.number_of(Release), 'release')}; "
-        f"at most {plural(max(history.open_regions), 'open region')}",
-        f"Instructions run {history.instructions():,}: {parts}",
-        f"Of these {fates}",
-    ]
-
-
-_PARTS = {Part.ORIGINAL: "originals", Part.FAST: "fast versions", Part.LEAD: "lead between regions"}
-
-# Entries that end a run.
-ENDINGS = (Finish, Halt)
+def _work_of(loans: List[Loan], width: int, number: int) -> List[Work]:
+    """What came home of these loans in each bin."""
+    cells: List[Work] = [{} for _ in range(number)]
+    for loan in loans:
+        if loan.last is not None and loan.count:
+            cell = cells[loan.last // width]
+            cell[loan.part, loan.fate] = cell.get((loan.part, loan.fate), 0) + loan.count
+    return cells

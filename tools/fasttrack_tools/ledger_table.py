@@ -5,8 +5,8 @@ from __future__ import annotations
 from dataclasses import dataclass, field
 from typing import Dict, List, Optional, Sequence
 
-from .layout import plural
 from .report import ABI_NAMES, VERDICTS, Report, Row, Verdict
+from .summary import plural
 from .symbols import Symbols
 
 # Of so many different verdicts of one place each has a line.
@@ -133,7 +133,7 @@ def _totals(report: Report, places: int) -> List[str]:
     factor = f", alone / path {told.alone / told.path:.2f}" if told.path else ""
     words = ", ".join(f"{word} {vars(told)[word]:,}" for word in VERDICTS)
     return [
-        f"regions {told.regions:,} at {plural(places, 'place')}: {words}",
+        f"{plural(told.regions, 'region')} at {plural(places, 'place')}: {words}",
         f"alone {told.alone:,}, path {told.path:,}, saved {saved:,}{factor}",
         report.end,
     ]

@@ -114,8 +114,8 @@ def _read_rows(lines: Lines) -> List[Row]:
 
 def _totals_of(rows: List[Row], alone: int) -> Totals:
     """The totals that the rows have, where the program alone takes so many instructions."""
-    counts = [sum(row.verdict.word == word for row in rows) for word in VERDICTS]
-    return Totals(len(rows), *counts, alone, alone - sum(row.saved for row in rows))
+    kept, differs, stopped, late = (sum(row.verdict.word == word for row in rows) for word in VERDICTS)
+    return Totals(len(rows), kept, differs, stopped, late, alone, alone - sum(row.saved for row in rows))
 
 
 def _read_totals(lines: Lines, rows: List[Row]) -> Totals:

@@ -8,7 +8,7 @@ import re
 import shutil
 import subprocess
 from dataclasses import dataclass
-from typing import List, Optional
+from typing import Dict, List, Optional
 
 from .command import Fault
 
@@ -55,11 +55,11 @@ class Symbols:
 
 
 def read_symbols(text: str) -> Symbols:
-    """The symbols of what `nm -n -S` prints. Of those at one address the first counts; marks of the assembler don't."""
+    """The symbols of what `nm -n -S` prints: the first at each address, but for the marks that an assembler makes."""
     found = [match.groups() for match in map(_LINE.fullmatch, text.splitlines()) if match]
     told = [(int(first, 16), int(size or "0", 16), name) for first, size, name in found if name[0] not in "$."]
     firsts = sorted({first for first, _, _ in told})
-    symbols = {}
+    symbols: Dict[int, Symbol] = {}
     for first, size, name in told:
         place = bisect.bisect_right(firsts, first)
         following = firsts[place] if place < len(firsts) else first + REACH

@@ -63,7 +63,8 @@ class Commands(unittest.TestCase):
                 self.assertEqual(done.returncode, status)
 
     def test_guest_output_is_passed_over_where_that_is_asked_for(self) -> None:
-        notes = b"a line\nregion 0 at 7\nand no line feed: " + (DATA / "roots.notes").read_bytes() + b"fasttrack: budget spent\n"
+        printed = (DATA / "roots.notes").read_bytes()
+        notes = b"a line\nregion 0 at 7\nand no line feed: " + printed + b"fasttrack: budget spent\n"
         for command, name in (("lanes", "lanes_roots"), ("ledger", "ledger_roots")):
             with self.subTest(command):
                 self.assertEqual(call(f"{command} --after-guest -", notes).stdout.decode(), stored(f"{name}.stdout"))
@@ -88,7 +89,8 @@ class Commands(unittest.TestCase):
             xml.etree.ElementTree.parse(picture)
 
     def test_help_names_each_option(self) -> None:
-        for command, options in (("lanes", ["--output", "--after-guest"]), ("ledger", ["--strict", "--nm", "--after-guest"])):
+        named = {"lanes": ["--output", "--after-guest"], "ledger": ["--strict", "--nm", "--after-guest"]}
+        for command, options in named.items():
             done = call(f"{command} --help")
             self.assertEqual(done.returncode, 0)
             for option in options:

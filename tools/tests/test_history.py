@@ -4,7 +4,7 @@ import unittest
 
 from board_model import Board, program
 
-from fasttrack_tools.history import Fate, Impossible, replay
+from fasttrack_tools.history import Fate, History, Impossible, replay
 from fasttrack_tools.layout import MOST_LANES, bins_of, lanes_left_out, lanes_of
 from fasttrack_tools.notes import journal_in
 
@@ -56,7 +56,7 @@ ENDINGS = [
 ]
 
 
-def history_of(entries: str):
+def history_of(entries: str) -> History:
     """The replay of entries that are parted by commas."""
     return replay(journal_in(entries.replace(", ", "\n")).entries)
 
@@ -97,8 +97,8 @@ class Replays(unittest.TestCase):
         self.assertEqual(sum(bins.events["discards"]) + sum(bins.events["keeps"]), 300)
 
     def test_a_seat_with_two_tracks_has_two_lanes(self) -> None:
-        history = history_of("lend 0 0.0.f, back 0.0.f 1, fork 0.1.f, lend 0 0.1.n, lend 0 0.1.f, back 0.1.n 3, lend 0 0.1.n")
-        self.assertEqual([(loan.seat, loan.slot) for loan in history.loans], [(0, 0), (0, 0), (0, 1), (0, 0)])
+        history = history_of("fork 0.1.f, lend 0 0.1.n, lend 0 0.1.f, back 0.1.n 3, lend 0 0.1.n")
+        self.assertEqual([(loan.seat, loan.slot) for loan in history.loans], [(0, 0), (0, 1), (0, 0)])
 
     def test_lanes_are_bounded(self) -> None:
         history = history_of(", ".join(f"lend {seat} 0.0.f, back 0.0.f 1" for seat in range(100)))
