@@ -70,12 +70,12 @@ class History:
         """The numbers of the seats that were lent a track."""
         return sorted({loan.seat for loan in self.loans})
 
-    def instructions(self, part: Optional[Part] = None, fate: Optional[Fate] = None, seat: Optional[int] = None) -> int:
-        """The instructions of the tracks that came back: of all, or of this part, this fate, this seat."""
+    def instructions(self, part: Optional[Part] = None, fate: Optional[Fate] = None) -> int:
+        """The instructions of the tracks that came back: of all, or of this part and this fate."""
         return sum(
             loan.count or 0
             for loan in self.loans
-            if part in (None, loan.part) and fate in (None, loan.fate) and seat in (None, loan.seat)
+            if part in (None, loan.part) and fate in (None, loan.fate)
         )
 
     def number_of(self, kind: type) -> int:

@@ -13,12 +13,11 @@ from .svg_style import EVENT_STYLE, LEFT, OVERLAY, STYLE, WIDTH
 def draw_bins(canvas: Canvas, bins: Bins, y: float) -> float:
     """A long journal, whose columns are bins."""
     step = WIDTH / bins.number
-    canvas.text(
-        LEFT,
-        y + 4,
-        f"A column is {bins.width:,} entries: a journal has no times. The height on a seat is the instructions that came "
-        f"home there: the whole lane is {bins.most_work:,}.",
+    words = (
+        f"A column is {bins.width:,} entries: a journal has no times. The height on a seat is the instructions that "
+        f"came home there: the whole lane is {bins.most_work:,}."
     )
+    canvas.text(LEFT, y + 4, words)
     y += 24
     canvas.text(LEFT - 8, y, "entry", "right")
     for place in range(0, bins.number, 10):

@@ -16,6 +16,7 @@ MOST_WIDE = 240
 MOST_NARROW = 1200
 WIDE_PANEL = 40
 NARROW_PANEL = 240
+
 SAY = (
     "Each entry has one place: a journal has no times. A bar goes from the entry that lends a track to the one that "
     "returns it, with its name and instructions{where}. At a dashed line tracks end."
@@ -23,7 +24,6 @@ SAY = (
 
 # From so many pixels an entry on, bars and events have labels.
 LABELLED = 25.0
-LETTER_WIDTH = 6.3
 
 
 @dataclass(frozen=True)
@@ -64,6 +64,7 @@ def draw_panels(canvas: Canvas, history: History, y: float) -> float:
 
 
 def _panel(canvas: Canvas, history: History, lanes: Dict[Lane, List[Loan]], panel: _Panel) -> float:
+    """One panel; answers its lower edge."""
     right = panel.x(panel.end)
     y = panel.y + 14
     _axis(canvas, panel, panel.y + 8)
@@ -118,7 +119,7 @@ def _bar(canvas: Canvas, loan: Loan, panel: _Panel, y: float) -> None:
     x = panel.x(max(loan.first, panel.first)) + 0.5
     width = panel.x(min(last + 1, panel.end)) - x - 0.5
     box: Box = (x, y + 1, width, panel.lane_height - 2)
-    count = "gone" if loan.count is None else f"{loan.count:,}"
+    count = f"{loan.count:,}" if loan.count is not None else "still lent" if loan.last is None else "gone"
     place = f"{loan.first} to {'the end' if loan.last is None else loan.last}"
     seat = lane_label((loan.seat, loan.slot))
     title = f"{loan.name} on {seat}, {loan.part.value}, entries {place}: {count}, {loan.fate.value}"
@@ -138,7 +139,8 @@ def _bar_label(canvas: Canvas, name: str, count: str, box: Box) -> None:
 
 
 def _event(canvas: Canvas, entry: Entry, panel: _Panel, index: int, board: float, lanes: Tuple[float, float]) -> None:
-    """The sign of an event of the board, its label, and the line through all lanes where it ends tracks."""
+    """The sign of an event of the board, its label, and the line through the lanes, from their upper edge to their lower
+    one, where it ends tracks."""
     if type(entry) not in EVENT_STYLE:
         return
     x = panel.x(index) + panel.step / 2
@@ -151,6 +153,7 @@ def _event(canvas: Canvas, entry: Entry, panel: _Panel, index: int, board: float
 
 
 def _event_label(entry: Entry) -> str:
+    """The region, the row, the bytes or the seat of an event."""
     if isinstance(entry, Fork):
         return f"{entry.name.generation}.{entry.name.region}"
     if isinstance(entry, (Keep, Discard)):

@@ -6,9 +6,12 @@ from .canvas import Canvas
 from .history import Fate, Part
 from .journal import Cross, Discard, Finish, Fork, Halt, Keep, Release
 
+# In pixels: the lanes lie from LEFT on, and are WIDTH wide where there are many entries.
 LEFT = 120.0
 WIDTH = 1200.0
 RIGHT = 24.0
+
+# About the width of a letter of a label.
 LETTER_WIDTH = 6.3
 
 HEAD = """\
@@ -22,7 +25,6 @@ text { font-family: "DejaVu Sans", Verdana, sans-serif; font-size: 11px; fill: #
 .tick { font-size: 9px; fill: #777; text-anchor: middle }
 .right { text-anchor: end }
 .rail { fill: #f4f4f4 }
-.grid { stroke: #ddd; fill: none }
 .opened { fill: #c9c9d6 }
 .original { fill: #9ec5e8; stroke: #3d75a8; stroke-width: 0.7 }
 .fast { fill: #f9c27e; stroke: #b8731a; stroke-width: 0.7 }

@@ -73,7 +73,8 @@ def symbols_of(image: str, program: Optional[str]) -> Symbols:
     if program is None:
         raise Fault(f"none of {', '.join(PROGRAMS)} is installed; name one by --nm")
     try:
-        done = subprocess.run([program, "-n", "-S", os.path.abspath(image)], capture_output=True, text=True, check=False)
+        words = [program, "-n", "-S", os.path.abspath(image)]
+        done = subprocess.run(words, capture_output=True, text=True, check=False)
     except OSError as error:
         raise Fault(f"{program}: {error.strerror}") from error
     if done.returncode != 0:
