@@ -139,8 +139,8 @@ def _bar_label(canvas: Canvas, name: str, count: str, box: Box) -> None:
 
 
 def _event(canvas: Canvas, entry: Entry, panel: _Panel, index: int, board: float, lanes: Tuple[float, float]) -> None:
-    """The sign of an event of the board and its label; where it ends tracks, a line through the lanes as well, which are
-    given by their upper and their lower edge."""
+    """The sign of an event of the board and its label. Where it ends tracks, a line as well, from the upper edge of the
+    lanes to their lower one."""
     if type(entry) not in EVENT_STYLE:
         return
     x = panel.x(index) + panel.step / 2

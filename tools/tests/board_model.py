@@ -78,16 +78,21 @@ class Board:
         """Runs to the end, and answers the journal."""
         while not self.over or any(self.seats.values()):
             self._settle()
-            if self.ready and self.random.random() < 0.7:
-                self.journal.append(f"release {self.ready}")
-                self.ready = 0
+            if self.random.random() < 0.7:
+                self._release()
             self._turn()
+        self._release()
         return "".join(line + "\n" for line in self.journal)
 
     @property
     def left(self) -> int:
         """The instructions of tracks in regions that are open at the end."""
         return self.run - self.kept - self.thrown
+
+    def _release(self) -> None:
+        if self.ready:
+            self.journal.append(f"release {self.ready}")
+            self.ready = 0
 
     def _turn(self) -> None:
         """A seat with nothing takes the oldest track, or one that has a track returns it."""

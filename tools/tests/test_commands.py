@@ -77,7 +77,7 @@ class Commands(unittest.TestCase):
             self.assertEqual(picture.read_text(), stored("three_seats.svg"))
 
     def test_a_long_journal_has_a_picture_of_bounded_size(self) -> None:
-        journal = Board(program(9_000, 1, 0.05), 30, 8, 8, 1).text().encode()
+        journal = Board(program(9_500, 1, 0.05), 30, 8, 8, 1).text().encode()
         self.assertGreater(journal.count(b"\n"), 100_000)
         lines = call("lanes -", journal).stdout.decode().splitlines()
         self.assertLess(len(lines), 50)
