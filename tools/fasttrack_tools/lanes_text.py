@@ -153,7 +153,7 @@ def _binned(history: History) -> List[str]:
         lines.append(_labelled(label, _ninths(counts)))
     lines.append(_labelled("open", "".join(_digit(number) for number in bins.open_regions)))
     for lane, cells in bins.work.items():
-        lines.append(_labelled(lane_label(lane), "".join(_work_cell(cell, bins.most_work) for cell in cells)))
+        lines.append(_labelled(lane_label(lane), "".join(work_cell(cell, bins.most_work) for cell in cells)))
     legend = (
         f"A column is {bins.width:,} entries: a journal has no times. On the seats 1 to 9 are ninths of "
         f"{bins.most_work:,} instructions that came home, and a to i the same where more than half of them was thrown "
@@ -183,7 +183,8 @@ def _ninths(values: Sequence[int]) -> str:
     return "".join(str(_level(value, most)) if value else "." for value in values)
 
 
-def _work_cell(cell: Work, most: int) -> str:
+def work_cell(cell: Work, most: int) -> str:
+    """What came home in a bin, in ninths of the greatest cell: a digit, or a letter where most was thrown away."""
     total = sum(cell.values())
     if total == 0:
         return "."

@@ -22,6 +22,7 @@ CALLS = [
     ("lanes_eight_seats", "lanes eight_seats.journal", 0, None),
     ("lanes_halted", "lanes halted.journal", 0, None),
     ("lanes_bad_line", "lanes bad_line.journal", 2, None),
+    ("lanes_impossible", "lanes impossible.notes", 2, None),
     ("lanes_of_a_report", "lanes roots.report", 2, None),
     ("lanes_of_no_file", "lanes nowhere.journal", 2, None),
     ("ledger_roots", "ledger roots.report", 0, None),
@@ -86,7 +87,9 @@ class Commands(unittest.TestCase):
             picture = Path(folder) / "long.svg"
             self.assertEqual(call(f"lanes - -o {picture}", journal).returncode, 0)
             self.assertLess(picture.stat().st_size, 200_000)
-            xml.etree.ElementTree.parse(picture)
+            paths = xml.etree.ElementTree.parse(picture).iter("{http://www.w3.org/2000/svg}path")
+            # Of each seat what was thrown away is hatched.
+            self.assertGreaterEqual(sum(path.get("class") == "thrown" for path in paths), 8)
 
     def test_help_names_each_option(self) -> None:
         named = {"lanes": ["--output", "--after-guest"], "ledger": ["--strict", "--nm", "--after-guest"]}

@@ -1,11 +1,13 @@
 """The replay of journals: what became of each track's instructions, and which entries cannot stand where they do."""
 
 import unittest
+from typing import List, Tuple
 
 from board_model import Board, program
 
-from fasttrack_tools.history import Fate, History, Impossible, replay
-from fasttrack_tools.layout import MOST_LANES, bins_of, lanes_left_out, lanes_of
+from fasttrack_tools.history import Fate, History, Impossible, Part, replay
+from fasttrack_tools.lanes_text import work_cell
+from fasttrack_tools.layout import MOST_LANES, Work, bins_of, lanes_left_out, lanes_of
 from fasttrack_tools.notes import journal_in
 
 OPENED = "lend 0 0.0.f, back 0.0.f 1, fork 0.1.f, lend 1 0.1.n, back 0.1.n 36, lend 2 0.1.f, back 0.1.f 5, cross 0.1.f"
@@ -96,8 +98,20 @@ class Replays(unittest.TestCase):
         self.assertEqual(sum(sum(cell.values()) for cells in bins.work.values() for cell in cells), board.run)
         self.assertEqual(sum(bins.events["discards"]) + sum(bins.events["keeps"]), 300)
 
+    def test_cells_show_ninths_and_what_was_thrown_away(self) -> None:
+        cells: List[Tuple[Work, str]] = [
+            ({}, "."),
+            ({(Part.LEAD, Fate.KEPT): 1}, "1"),
+            ({(Part.ORIGINAL, Fate.KEPT): 11}, "2"),
+            ({(Part.ORIGINAL, Fate.KEPT): 60, (Part.FAST, Fate.KEPT): 30}, "9"),
+            ({(Part.ORIGINAL, Fate.KEPT): 40, (Part.FAST, Fate.THROWN): 40}, "8"),
+            ({(Part.ORIGINAL, Fate.KEPT): 39, (Part.FAST, Fate.THROWN): 20, (Part.LEAD, Fate.THROWN): 21}, "h"),
+        ]
+        for cell, sign in cells:
+            self.assertEqual(work_cell(cell, 90), sign)
+
     def test_a_seat_with_two_tracks_has_two_lanes(self) -> None:
-        history = history_of("fork 0.1.f, lend 0 0.1.n, lend 0 0.1.f, back 0.1.n 3, lend 0 0.1.n")
+        history = history_of("fork 0.1.f, lend 0 0.1.n, lend 0 0.1.f, back 0.1.n 3, back 0.1.f 2, lend 0 0.1.n")
         self.assertEqual([(loan.seat, loan.slot) for loan in history.loans], [(0, 0), (0, 1), (0, 0)])
 
     def test_lanes_are_bounded(self) -> None:
