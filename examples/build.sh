@@ -15,6 +15,7 @@ with_gcc() { # FILE SOURCE..
 
 with_clang primes.elf primes.c
 with_clang roots.elf region.s roots.c
+with_clang memory.elf region.s memory.c
 with_clang forms.elf region.s forms.c
 # As C++ the forms are the same image.
 cpp=$(mktemp)

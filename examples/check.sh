@@ -22,8 +22,8 @@ emulated() { # IMAGE INPUT
     echo "as in qemu: $1"
 }
 
-for name in roots forms forms-gcc; do trial $name.elf $name.report /dev/null; done
-for name in primes roots forms forms-gcc; do emulated $name.elf /dev/null; done
+for name in roots memory forms forms-gcc; do trial $name.elf $name.report /dev/null; done
+for name in primes roots memory forms forms-gcc; do emulated $name.elf /dev/null; done
 # These are there once picolibc/build.sh has built them.
 for name in words words-gcc; do
     image=picolibc/out/$name.elf

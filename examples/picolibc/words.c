@@ -35,14 +35,15 @@ static void add(const char *text) {
     words[length++].count = 1;
 }
 
-/* The original: a sort by insertion. A version answers something, so that both leave one value in a0. */
-static int by_insertion(struct word *list, int size) {
-    for (int end = 1; end < size; end++)
-        for (int at = end; at > 0 && strcmp(list[at - 1].text, list[at].text) > 0; at--) {
-            struct word last = list[at];
-            list[at] = list[at - 1];
-            list[at - 1] = last;
-        }
+/* The original: a sort by selection. Each version answers something, so that a0 has one value. */
+static int by_selection(struct word *list, int size) {
+    for (int from = 0; from < size; from++)
+        for (int at = from + 1; at < size; at++)
+            if (strcmp(list[at].text, list[from].text) < 0) {
+                struct word least = list[at];
+                list[at] = list[from];
+                list[from] = least;
+            }
     return size;
 }
 
@@ -53,7 +54,18 @@ static int by_library(struct word *list, int size) {
     return size;
 }
 
-REGION(sort, by_insertion, by_library, STACK);
+REGION(sort, by_selection, by_library, STACK);
+
+/* Wrong: the order is right, but what `malloc` and `free` keep differs afterwards. */
+static int by_copy(struct word *list, int size) {
+    struct word *copy = some(malloc(size * sizeof *copy));
+    memcpy(copy, list, size * sizeof *copy);
+    by_library(copy, size);
+    memcpy(list, copy, size * sizeof *copy);
+    free(copy);
+    return size;
+}
+REGION(sort_copy, by_selection, by_copy, STACK);
 
 int main(void) {
     char line[200];
@@ -62,6 +74,7 @@ int main(void) {
             for (char *letter = text; *letter; letter++) *letter = tolower((unsigned char)*letter);
             add(text);
         }
+    sort_copy(words, length);
     sort(words, length);
     for (int at = 0; at < length; at++) printf("%4d %s\n", words[at].count, words[at].text);
     printf("%d words\n", length);
