@@ -1,6 +1,6 @@
 #!/usr/bin/env bash
 # Builds the images with a stock clang and lld that know RISC-V, with a stock GCC where there is one, and those of raw words.
-# The stored images come from clang 14.0.6 and GCC 12.2.0 (Debian's packages); others give other bytes.
+# The stored images come from clang 14.0.6 and GCC 12.2.0, as Debian 12 has them; others give other bytes.
 set -eu
 cd "$(dirname "$0")"
 flags=(-march=rv32im -mabi=ilp32 -O2 -ffreestanding -fno-pic -nostdlib -Wl,-T,guest.ld -Wl,--strip-all)
