@@ -1,5 +1,5 @@
 /* The services of the runtime, and a number as a line of output. */
-enum { READ = 63, WRITE = 64, BREAK = 214 };
+enum { READ = 63, WRITE = 64, EXIT = 93, BREAK = 214 };
 
 static inline long call(long number, long a, long b, long c) {
     register long a0 __asm__("a0") = a;
