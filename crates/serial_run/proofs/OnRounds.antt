@@ -264,7 +264,7 @@ can-lend_by v (Some n) oldest known underway undue none live = (n, oldest)
 can-lend_by v None oldest known underway undue none live =
     let idle = next-is v None false None undue (none-shown v none) oldest in
     let ended = ended-idle (machine_of v) v.settings (start_state v) (core_of v) (sound-of v known) (solo-of v underway) known.limits.some idle in
-    let is_over : over (core_of v) ≡ true = ap (λ o. is_some o || (core_of v).halted) ended.is in
+    let is_over : over (core_of v) ≡ true = ap (λ o. is_some o || (core_of v).halted) ended.finish in
     absurd (cc)
 
 -- a board that is not over, with nothing due and nothing to release, can lend
