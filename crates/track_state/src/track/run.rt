@@ -3,14 +3,11 @@
 ghost use Rattle.track_state.specs.Opening.{Opens};
 
 use super::Track;
-use crate::progress::{MOST_HELD, advance};
+use crate::progress::advance;
 use basic_types::NoMemory;
-use guest_model::Regs;
+use guest_model::{A0, Regs};
 use rv32_law::states::runs_keep_states;
-use speculation::Kind;
-
-/// The register a0.
-const A0: u8 = 10;
+use speculation::{Kind, MOST_HELD};
 
 impl Track {
     ghost use Rattle.std.specs.Prelude.{◌≡◌, MatchResult};
