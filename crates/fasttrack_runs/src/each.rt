@@ -40,64 +40,58 @@ fn check_out(
 ) -> Result<bool, Fault> {
     for (k, start) in run.out.starts().iter().enumerate() {
         let part = failed(run.out.first(*start), WRITE_FAILED);
-        if !is_cut_out(rt, run, k as u64, part)? {
+        if !is_given(rt, run, run.failing_out(&[k as u64]), part)? {
             return Ok(false);
         }
     }
-    is_cut_out(rt, run, run.out.starts().len() as u64, wanted)
+    let last = run.out.starts().len() as u64;
+    is_given(rt, run, run.failing_out(&[last]), wanted)
 }
 
-/// Whether this comes of the run where this call of `out` fails.
-fn is_cut_out(
-    rt: &(impl Print + AllocGlobal),
-    run: &Run,
-    k: u64,
-    wanted: Wanted<'_>,
-) -> Result<bool, Fault> {
-    let failing = Failing {
-        out: &[k],
-        ..run.failing()
-    };
-    let got = call(rt.alloc(), run, failing)?;
-    is_as_wanted(rt, run.name.as_str(), &got, wanted)
-}
-
-/// `out` gets all. Notes get the answer's line behind the pieces, where the call that writes it doesn't fail too.
+/// `out` gets all.
 fn check_notes(
     rt: &(impl Print + AllocGlobal),
     run: &Run,
     wanted: Wanted<'_>,
 ) -> Result<bool, Fault> {
     for (k, start) in run.notes.starts().iter().enumerate() {
-        let k = k as u64;
-        let before = run.notes.first(*start);
-        let mut told = Vec::from_slice(rt.alloc(), before)?;
-        told.extend_from_slice(WRITE_FAILED)?;
-        if !is_cut_notes(rt, run, &[k], failed(wanted.out, told.as_slice()))?
-            || !is_cut_notes(
-                rt,
-                run,
-                &[k, k.saturating_add(1)],
-                failed(wanted.out, before),
-            )?
-        {
+        if !check_piece_of_notes(rt, run, k as u64, wanted.out, run.notes.first(*start))? {
             return Ok(false);
         }
     }
-    is_cut_notes(rt, run, &[run.notes.starts().len() as u64], wanted)
+    let last = run.notes.starts().len() as u64;
+    is_given(rt, run, run.failing_notes(&[last]), wanted)
 }
 
-/// Whether this comes of the run where these calls of `notes` fail.
-fn is_cut_notes(
+/// Behind the pieces before this one, notes get the answer's line, where the call that writes it doesn't fail too.
+fn check_piece_of_notes(
     rt: &(impl Print + AllocGlobal),
     run: &Run,
-    notes: &[u64],
+    k: u64,
+    out: &[u8],
+    before: &[u8],
+) -> Result<bool, Fault> {
+    let mut told = Vec::from_slice(rt.alloc(), before)?;
+    told.extend_from_slice(WRITE_FAILED)?;
+    if !is_given(
+        rt,
+        run,
+        run.failing_notes(&[k]),
+        failed(out, told.as_slice()),
+    )? {
+        return Ok(false);
+    }
+    let both = [k, k.saturating_add(1)];
+    is_given(rt, run, run.failing_notes(&both), failed(out, before))
+}
+
+/// Whether a run gives this where these calls fail.
+fn is_given(
+    rt: &(impl Print + AllocGlobal),
+    run: &Run,
+    failing: Failing<'_>,
     wanted: Wanted<'_>,
 ) -> Result<bool, Fault> {
-    let failing = Failing {
-        notes,
-        ..run.failing()
-    };
     let got = call(rt.alloc(), run, failing)?;
     is_as_wanted(rt, run.name.as_str(), &got, wanted)
 }

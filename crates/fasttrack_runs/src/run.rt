@@ -83,6 +83,22 @@ impl Run {
         }
     }
 
+    /// The same, but for `out`.
+    pub fn failing_out<'a>(&'a self, out: &'a [u64]) -> Failing<'a> {
+        Failing {
+            out,
+            ..self.failing()
+        }
+    }
+
+    /// The same, but for `notes`.
+    pub fn failing_notes<'a>(&'a self, notes: &'a [u64]) -> Failing<'a> {
+        Failing {
+            notes,
+            ..self.failing()
+        }
+    }
+
     /// Takes in what a line says.
     pub fn read_line(&mut self, alloc: Global, blocks: &Blocks, line: &str) -> Result<(), Fault> {
         let (key, rest) = split_word(line);
