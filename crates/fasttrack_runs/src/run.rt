@@ -1,0 +1,165 @@
+//! A stored run: what one call of the program is given, and what must come of it.
+
+use crate::bytes::{Blocks, append_line, split_word};
+use crate::fault::Fault;
+use crate::wanted::Pieces;
+use std::alloc::Global;
+
+/// Which calls of each object fail, counted from 0.
+#[derive(Clone, Copy)]
+pub struct Failing<'a> {
+    pub files: &'a [u64],
+    pub input: &'a [u64],
+    pub out: &'a [u64],
+    pub notes: &'a [u64],
+}
+
+/// A stored run.
+#[derive(Drop)]
+pub struct Run {
+    pub name: String,
+    /// The words behind the program's own name.
+    pub words: Vec<String>,
+    /// The file `g`.
+    pub file: Vec<u8>,
+    pub input: Vec<u8>,
+    failing_files: Vec<u64>,
+    failing_input: Vec<u64>,
+    failing_out: Vec<u64>,
+    failing_notes: Vec<u64>,
+    /// The sink whose calls fail each in turn, if there is one.
+    pub each: Each,
+    pub status: Option<u8>,
+    /// The answer in full, where the status doesn't tell it.
+    pub answer: Option<String>,
+    pub out: Pieces,
+    pub notes: Pieces,
+    /// How many histories are handed out.
+    pub histories: usize,
+    /// The lines of the history, where they are told.
+    pub history: Pieces,
+    /// Beginnings of lines of the history, and how many lines begin so.
+    pub counts: Vec<(usize, String)>,
+}
+
+/// The sink whose calls fail each in turn.
+#[derive(Clone, Copy, PartialEq, Eq)]
+pub enum Each {
+    Neither,
+    Out,
+    Notes,
+}
+
+impl Run {
+    /// A run of which only the name is known.
+    pub fn new(alloc: Global, name: &str) -> Result<Run, Fault> {
+        Ok(Run {
+            name: String::from_str(alloc, name)?,
+            words: Vec::new(alloc),
+            file: Vec::new(alloc),
+            input: Vec::new(alloc),
+            failing_files: Vec::new(alloc),
+            failing_input: Vec::new(alloc),
+            failing_out: Vec::new(alloc),
+            failing_notes: Vec::new(alloc),
+            each: Each::Neither,
+            status: None,
+            answer: None,
+            out: Pieces::new(alloc),
+            notes: Pieces::new(alloc),
+            histories: 0,
+            history: Pieces::new(alloc),
+            counts: Vec::new(alloc),
+        })
+    }
+
+    /// Which calls of each object fail.
+    pub fn failing(&self) -> Failing<'_> {
+        Failing {
+            files: self.failing_files.as_slice(),
+            input: self.failing_input.as_slice(),
+            out: self.failing_out.as_slice(),
+            notes: self.failing_notes.as_slice(),
+        }
+    }
+
+    /// The same, but for `out`.
+    pub fn failing_out<'a>(&'a self, out: &'a [u64]) -> Failing<'a> {
+        Failing {
+            out,
+            ..self.failing()
+        }
+    }
+
+    /// The same, but for `notes`.
+    pub fn failing_notes<'a>(&'a self, notes: &'a [u64]) -> Failing<'a> {
+        Failing {
+            notes,
+            ..self.failing()
+        }
+    }
+
+    /// Takes in what a line says.
+    pub fn read_line(&mut self, alloc: Global, blocks: &Blocks, line: &str) -> Result<(), Fault> {
+        let (key, rest) = split_word(line);
+        match key {
+            "words" => read_words(alloc, &mut self.words, rest),
+            "file" => append_line(alloc, blocks, &mut self.file, rest),
+            "input" => append_line(alloc, blocks, &mut self.input, rest),
+            "fails" => self.read_failing(rest),
+            "each" => self.read_each(rest),
+            "out" => self.out.read_line(alloc, blocks, rest),
+            "notes" => self.notes.read_line(alloc, blocks, rest),
+            "history" => self.history.read_line(alloc, blocks, rest),
+            _ => self.read_end(alloc, key, rest),
+        }
+    }
+
+    /// Takes in what a line says of the answer, or of how many histories there are.
+    fn read_end(&mut self, alloc: Global, key: &str, rest: &str) -> Result<(), Fault> {
+        match key {
+            "status" => self.status = Some(rest.parse()?),
+            "answer" => self.answer = Some(String::from_str(alloc, rest)?),
+            "histories" => self.histories = rest.parse()?,
+            "count" => {
+                let (count, start) = split_word(rest);
+                self.counts
+                    .push((count.parse()?, String::from_str(alloc, start)?))?;
+            }
+            _ => return Err(Fault::Unreadable),
+        }
+        Ok(())
+    }
+
+    /// OBJECT NUMBER ..: the calls of an object that fail.
+    fn read_failing(&mut self, text: &str) -> Result<(), Fault> {
+        let (object, numbers) = split_word(text);
+        let failing = match object {
+            "files" => &mut self.failing_files,
+            "input" => &mut self.failing_input,
+            "out" => &mut self.failing_out,
+            "notes" => &mut self.failing_notes,
+            _ => return Err(Fault::Unreadable),
+        };
+        for number in numbers.split_whitespace() {
+            failing.push(number.parse()?)?;
+        }
+        Ok(())
+    }
+
+    fn read_each(&mut self, sink: &str) -> Result<(), Fault> {
+        self.each = match sink {
+            "out" => Each::Out,
+            "notes" => Each::Notes,
+            _ => return Err(Fault::Unreadable),
+        };
+        Ok(())
+    }
+}
+
+fn read_words(alloc: Global, words: &mut Vec<String>, text: &str) -> Result<(), Fault> {
+    for word in text.split_whitespace() {
+        words.push(String::from_str(alloc, word)?)?;
+    }
+    Ok(())
+}
