@@ -8,6 +8,7 @@ ghost use Rattle.track_board.specs.Value.{IsSettings};
 ghost use Rattle.fasttrack_program.specs.Plan.{Runs, options_of};
 ghost use Rattle.fasttrack_program.specs.Reading.{ReadsWithoutFault};
 ghost use Rattle.fasttrack_program.specs.Serving.{IsDone, IsServedWith};
+ghost use Rattle.guest_streams.specs.GuestStreams.{sinks_of};
 ghost use Rattle.fasttrack_program.specs.TopCall.{IsRefusedEarly, ReadFails, Serves, is_bench, settings_of};
 
 use crate::alone::run_alone;
@@ -34,9 +35,7 @@ fn run_image<O: Sink, N: Sink>(
     notes: &mut N,
 ) -> Answer
     ensures serves { Serves (Runs Alone (image_of_loaded loaded.now) input.now options.now) []
-        (record { out = O.contents out.old; out_faults = O.faults out.old; notes = N.contents notes.old; notes_faults = N.faults notes.old })
-        (record { out = O.contents out.new; out_faults = O.faults out.new; notes = N.contents notes.new; notes_faults = N.faults notes.new })
-        result }
+        (sinks_of O.Sink N.Sink out.old notes.old) (sinks_of O.Sink N.Sink out.new notes.new) result }
     ensures reads_nothing { result ≡ Answer.ReadFault → ⊥ }
 {
     let Ok(memory) = FlatMemory::from_areas(alloc, loaded.areas.as_slice()) else {
@@ -67,9 +66,7 @@ fn do_task<O: Sink, N: Sink>(
     requires settings { IsSettings (settings_of options.now) }
     requires image { is_bench task ≡ false }
     ensures done { IsDone task (Runs task (image_of_loaded loaded.now) input options.now)
-        (record { out = O.contents out.old; out_faults = O.faults out.old; notes = N.contents notes.old; notes_faults = N.faults notes.old })
-        (record { out = O.contents out.new; out_faults = O.faults out.new; notes = N.contents notes.new; notes_faults = N.faults notes.new })
-        result }
+        (sinks_of O.Sink N.Sink out.old notes.old) (sinks_of O.Sink N.Sink out.new notes.new) result }
     ensures reads_nothing { result.answer ≡ Answer.ReadFault → ⊥ }
 {
     match task {
@@ -93,9 +90,7 @@ pub fn serve_request<F: Files, I: Source, O: Sink, N: Sink>(
     requires { IsSettings (settings_of (options_of (asked request.now))) }
     ensures served { IsServedWith (Some (asked request.now))
         (F.contents files.old request.now.image.now) (I.remaining input.old)
-        (record { out = O.contents out.old; out_faults = O.faults out.old; notes = N.contents notes.old; notes_faults = N.faults notes.old })
-        (record { out = O.contents out.new; out_faults = O.faults out.new; notes = N.contents notes.new; notes_faults = N.faults notes.new })
-        result }
+        (sinks_of O.Sink N.Sink out.old notes.old) (sinks_of O.Sink N.Sink out.new notes.new) result }
     ensures read_fault { result.answer ≡ Answer.ReadFault
         → ReadFails (Some (asked request.now)) (F.contents files.old request.now.image.now) (F.faults files.old) (F.faults files.new) I.faults input.old input.new }
     ensures counted { ReadsWithoutFault (F.faults files.old) (F.faults files.new) (I.faults input.old) (I.faults input.new) result.answer }

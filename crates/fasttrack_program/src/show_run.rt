@@ -10,6 +10,7 @@ ghost use Rattle.fasttrack_program.specs.Plan.{Runs};
 ghost use Rattle.fasttrack_program.specs.Reports.{asked_report, asked_journal, asked_texts};
 ghost use Rattle.fasttrack_program.specs.Serving.{IsDone};
 ghost use Rattle.fasttrack_program.specs.TextOnSink.{WritesText};
+ghost use Rattle.guest_streams.specs.GuestStreams.{sinks_of};
 ghost use Rattle.fasttrack_program.specs.TopCall.{settings_of};
 
 use crate::answer::{Answer, answer_of, answer_of_fault};
@@ -39,9 +40,7 @@ pub fn show_run<O: Sink, N: Sink>(
 ) -> Served
     requires { IsSettings (settings_of options.now) }
     ensures done { IsDone Run (Runs Run (image_of_loaded loaded.now) input options.now)
-        (record { out = O.contents out.old; out_faults = O.faults out.old; notes = N.contents notes.old; notes_faults = N.faults notes.old })
-        (record { out = O.contents out.new; out_faults = O.faults out.new; notes = N.contents notes.new; notes_faults = N.faults notes.new })
-        result }
+        (sinks_of O.Sink N.Sink out.old notes.old) (sinks_of O.Sink N.Sink out.new notes.new) result }
     ensures reads_nothing { result.answer ≡ Answer.ReadFault → ⊥ }
 {
     let outcome = match run_tracks(alloc, loaded, input, options, out, notes) {

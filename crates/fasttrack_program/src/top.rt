@@ -1,7 +1,7 @@
 //! The top call: words, image, input, run, and the answer's line, in this order.
 
 ghost use Rattle.std.specs.Prelude.{◌≡◌, ◌<◌, ◌⊎◌, true, false, None, Some, IfSome, IfNone, IsSome, map, string_bytes, vec_len, vec_capacity};
-ghost use Rattle.guest_streams.specs.GuestStreams.{Sinks};
+ghost use Rattle.guest_streams.specs.GuestStreams.{Sinks, sinks_of};
 ghost use Rattle.program_words.specs.CommandLine.{asked, request_of};
 ghost use Rattle.fasttrack_program.specs.Completeness.{NothingFailed, IsComplete};
 ghost use Rattle.fasttrack_program.specs.Reading.{ReadsWithoutFault};
@@ -48,17 +48,15 @@ pub fn plain_main<F: Files, I: Source, O: Sink, N: Sink>(
 ) -> Option<Answer>
     ensures answered { let request = request_of (map string_bytes words.now) in
         IfSome result (λ answer. IsAnswered request (told_of (F.contents files.old) request) (I.remaining input.old)
-        (record { out = O.contents out.old; out_faults = O.faults out.old; notes = N.contents notes.old; notes_faults = N.faults notes.old })
-        (record { out = O.contents out.new; out_faults = O.faults out.new; notes = N.contents notes.new; notes_faults = N.faults notes.new })
-        told.old told.new answer) }
+        (sinks_of O.Sink N.Sink out.old notes.old) (sinks_of O.Sink N.Sink out.new notes.new) told.old told.new answer) }
 
     // Where no count rose, the answer and the output are what the words, the image and the input ask for, or memory ran
     // out. So where the words are accepted, the image is within its limit and without a fault, and the input is within its
     // limit, they are the program's own end with all of its output, or Shown with the whole report
     // (`laws::good_calls_are_done`).
     ensures complete { let request = request_of (map string_bytes words.now) in
-        let before : Sinks = record { out = O.contents out.old; out_faults = O.faults out.old; notes = N.contents notes.old; notes_faults = N.faults notes.old } in
-        let after : Sinks = record { out = O.contents out.new; out_faults = O.faults out.new; notes = N.contents notes.new; notes_faults = N.faults notes.new } in
+        let before : Sinks = sinks_of O.Sink N.Sink out.old notes.old in
+        let after : Sinks = sinks_of O.Sink N.Sink out.new notes.new in
         IfSome result (λ answer. NothingFailed (F.faults files.old) (F.faults files.new) (I.faults input.old) (I.faults input.new) before after
         → IsComplete request (told_of (F.contents files.old) request) (I.remaining input.old) before after answer) }
 
@@ -107,8 +105,8 @@ fn serve_words<F: Files, I: Source, O: Sink, N: Sink>(
 ) -> Option<Served>
     ensures served { let request = request_of (map string_bytes words.now) in
         IfSome result (IsServedWith request (told_of (F.contents files.old) request) (I.remaining input.old)
-        (record { out = O.contents out.old; out_faults = O.faults out.old; notes = N.contents notes.old; notes_faults = N.faults notes.old })
-        (record { out = O.contents out.new; out_faults = O.faults out.new; notes = N.contents notes.new; notes_faults = N.faults notes.new })) }
+        (sinks_of O.Sink N.Sink out.old notes.old)
+        (sinks_of O.Sink N.Sink out.new notes.new)) }
     ensures none { IfNone result ((needs_workers (request_of (map string_bytes words.now)) ≡ true)
         × (files.new ≡ files.old) × (input.new ≡ input.old) × (out.new ≡ out.old) × (notes.new ≡ notes.old)) }
     ensures some { IfSome result (λ served. (served.answer ≡ Answer.NoMemory) ⊎ (needs_workers (request_of (map string_bytes words.now)) ≡ false)) }

@@ -2,7 +2,7 @@ use Rattle.std.proofs.Common.{◌≡◌, false, Some, inl, inr, refl, sym, subst
 use Rattle.elf32_loader.specs.LoadedImage.{image_of_loaded}
 use Rattle.elf32_loader.specs.declared.loaded.Loaded.{Loaded}
 use Rattle.basic_types.specs.declared.bytes.Bytes.{Bytes}
-use Rattle.guest_streams.specs.GuestStreams.{Sinks}
+use Rattle.guest_streams.specs.GuestStreams.{Sinks, sinks_of}
 use Rattle.program_words.specs.CommandLine.{Request, asked}
 use Rattle.program_words.specs.declared.request.Task.TheVariants.{Bench}
 use Rattle.fasttrack_program.specs.Plan.{Runs, bench_plan}
@@ -13,7 +13,7 @@ use Rattle.fasttrack_program.proofs.serve.serve_request.Goals as goal
 
 pub returns-in-Bench-clause-served : goal.returns-in-Bench-clause-served
 returns-in-Bench-clause-served g c =
-    let before : Sinks = record { out = g.O.Sink.contents c.args.out.now; out_faults = g.O.Sink.faults c.args.out.now; notes = g.N.Sink.contents c.args.notes.now; notes_faults = g.N.Sink.faults c.args.notes.now } in
+    let before : Sinks = sinks_of g.O.Sink g.N.Sink c.args.out.now c.args.notes.now in
     let after : Sinks = record before { out = g.O.Sink.contents c.show_bench.new.out; out_faults = g.O.Sink.faults c.show_bench.new.out } in
     served-bench (asked c.args.request.now) (g.F.Files.contents c.args.files.now c.args.request.now.image.now) (g.I.Source.remaining c.args.input.now) before after c.show_bench.result c.in-Bench.number c.in-Bench.is
     (subst (λ o. IsDone (Bench c.in-Bench.number) (bench_plan c.in-Bench.number o) before after c.show_bench.result) c.options_in-options.ensures
@@ -21,7 +21,7 @@ returns-in-Bench-clause-served g c =
 
 pub returns-in-Err-clause-served : goal.returns-in-Err-clause-served
 returns-in-Err-clause-served g c =
-    let before : Sinks = record { out = g.O.Sink.contents c.args.out.now; out_faults = g.O.Sink.faults c.args.out.now; notes = g.N.Sink.contents c.args.notes.now; notes_faults = g.N.Sink.faults c.args.notes.now } in
+    let before : Sinks = sinks_of g.O.Sink g.N.Sink c.args.out.now c.args.notes.now in
     let reads : is_bench c.args.request.now.task ≡ false = no_bench c.args.request.now.task c.in_default.not-Bench in
     subst (IsServedWith (Some (asked c.args.request.now)) (g.F.Files.contents c.args.files.now c.args.request.now.image.now) (g.I.Source.remaining c.args.input.now) before before) (sym c.plain.ensures)
     (served-image (asked c.args.request.now) c.requires.some (g.F.Files.contents c.args.files.now c.args.request.now.image.now) (g.I.Source.remaining c.args.input.now) reads before c.in-Err.answer c.in-Err.ensures.reads)
@@ -35,8 +35,8 @@ returns-in-Err-clause-counted g c = λ h. (calm-read Loaded _ _ c.in-Err.answer 
 
 pub returns-in-Ok-read_wanted-clause-served : goal.returns-in-Ok-read_wanted-clause-served
 returns-in-Ok-read_wanted-clause-served g c =
-    let before : Sinks = record { out = g.O.Sink.contents c.args.out.now; out_faults = g.O.Sink.faults c.args.out.now; notes = g.N.Sink.contents c.args.notes.now; notes_faults = g.N.Sink.faults c.args.notes.now } in
-    let after : Sinks = record { out = g.O.Sink.contents c.do_task.new.out; out_faults = g.O.Sink.faults c.do_task.new.out; notes = g.N.Sink.contents c.do_task.new.notes; notes_faults = g.N.Sink.faults c.do_task.new.notes } in
+    let before : Sinks = sinks_of g.O.Sink g.N.Sink c.args.out.now c.args.notes.now in
+    let after : Sinks = sinks_of g.O.Sink g.N.Sink c.do_task.new.out c.do_task.new.notes in
     let r : Request = asked c.args.request.now in
     let reads : is_bench c.args.request.now.task ≡ false = no_bench c.args.request.now.task c.in_default.not-Bench in
     served-runs r (g.F.Files.contents c.args.files.now c.args.request.now.image.now) (g.I.Source.remaining c.args.input.now) before after c.do_task.result c.in-Ok.loaded c.in-Ok-read_wanted.bytes reads c.in-Ok.ensures.reads c.in-Ok-read_wanted.ensures.reads
@@ -50,7 +50,7 @@ returns-in-Ok-read_wanted-clause-early g c = λ h. absurd (late-runs _ _ _ _ _ _
 
 pub returns-clause-served : goal.returns-clause-served
 returns-clause-served g c =
-    let before : Sinks = record { out = g.O.Sink.contents c.args.out.now; out_faults = g.O.Sink.faults c.args.out.now; notes = g.N.Sink.contents c.args.notes.now; notes_faults = g.N.Sink.faults c.args.notes.now } in
+    let before : Sinks = sinks_of g.O.Sink g.N.Sink c.args.out.now c.args.notes.now in
     let reads : is_bench c.args.request.now.task ≡ false = no_bench c.args.request.now.task c.in_default.not-Bench in
     subst (IsServedWith (Some (asked c.args.request.now)) (g.F.Files.contents c.args.files.now c.args.request.now.image.now) (g.I.Source.remaining c.args.input.now) before before) (sym c.plain-in-Err-read_wanted.ensures)
     (served-refused (asked c.args.request.now) c.requires.some (g.F.Files.contents c.args.files.now c.args.request.now.image.now) (g.I.Source.remaining c.args.input.now) reads before c.in-Ok.loaded c.in-Err-read_wanted.answer c.in-Ok.ensures.reads c.in-Err-read_wanted.ensures.reads)

@@ -1,5 +1,5 @@
 use Rattle.std.proofs.Common.{ap, ◌∙◌}
-use Rattle.guest_streams.specs.GuestStreams.{Sinks}
+use Rattle.guest_streams.specs.GuestStreams.{Sinks, sinks_of}
 use Rattle.fasttrack_program.specs.Serving.{with_history}
 use Rattle.fasttrack_program.proofs.OnCompleteness.{completed, read-failed}
 use Rattle.fasttrack_program.proofs.OnHistories.{read_fault-served, read_fault-told}
@@ -10,7 +10,7 @@ pub returns-clause-answered : goal.returns-clause-answered
 returns-clause-answered g c =
     let calls = c.serve_words in
     let served = c.in_ok-answer.field-0 in
-    let between : Sinks = record { out = g.O.Sink.contents calls.new.out; out_faults = g.O.Sink.faults calls.new.out; notes = g.N.Sink.contents calls.new.notes; notes_faults = g.N.Sink.faults calls.new.notes } in
+    let between : Sinks = sinks_of g.O.Sink g.N.Sink calls.new.out calls.new.notes in
     answered _ _ (g.I.Source.remaining c.args.input.now) _ between (g.N.Sink.contents c.conclude-answer.new.notes) (g.N.Sink.faults c.conclude-answer.new.notes) c.args.told.now c.hand_out.new.histories.items served c.conclude-answer.result
     c.in_ok-answer.ensures.served c.conclude-answer.ensures
     (c.hand_out.ensures ∙ ap (λ xs. with_history xs served.history c.conclude-answer.result) (calls.ensures.items ∙ c.told.view_is))

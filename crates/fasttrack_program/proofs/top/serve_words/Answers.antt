@@ -1,6 +1,6 @@
 use Rattle.std.proofs.Common.{◌≡◌, true, None, Err, Option, refl, sym, ap, ◌∙◌, subst}
 use Rattle.program_words.specs.CommandLine.{Request}
-use Rattle.guest_streams.specs.GuestStreams.{Sinks}
+use Rattle.guest_streams.specs.GuestStreams.{Sinks, sinks_of}
 use Rattle.fasttrack_program.specs.Serving.{IsServedWith}
 use Rattle.fasttrack_program.specs.TopCall.{is_bench, told_of}
 use Rattle.fasttrack_program.proofs.OnHistories.{words-allow}
@@ -9,7 +9,7 @@ use Rattle.fasttrack_program.proofs.top.serve_words.Goals as goal
 
 pub returns-in-Err-Usage-clause-served : goal.returns-in-Err-Usage-clause-served
 returns-in-Err-Usage-clause-served g c =
-    let before : Sinks = record { out = g.O.Sink.contents c.args.out.now; out_faults = g.O.Sink.faults c.args.out.now; notes = g.N.Sink.contents c.args.notes.now; notes_faults = g.N.Sink.faults c.args.notes.now } in
+    let before : Sinks = sinks_of g.O.Sink g.N.Sink c.args.out.now c.args.notes.now in
     subst (λ (r : Option Request). IsServedWith r (told_of (g.F.Files.contents c.args.files.now) r) (g.I.Source.remaining c.args.input.now) before before c.plain.result)
     (sym (c.read_words.ensures.usage (c.in-Err-Usage.is ∙ ap Err c.in-Err-Usage.field-0-is)))
     (subst (IsServedWith None None (g.I.Source.remaining c.args.input.now) before before) (sym c.plain.ensures) (served-usage None (g.I.Source.remaining c.args.input.now) before))
