@@ -4,7 +4,7 @@ ghost use Rattle.std.specs.Prelude.{◌≡◌, List, [], IfOk, IfSome};
 ghost use Rattle.speculation.specs.declared.history.Entry.{Entry};
 ghost use Rattle.track_board.specs.Value.{IsSettings};
 ghost use Rattle.serial_run.specs.Conducting.{IsWhole};
-ghost use Rattle.fasttrack_program.specs.TopCall.{settings_of};
+ghost use Rattle.fasttrack_program.specs.Promise.{settings_of};
 ghost use Rattle.guest_streams.specs.GuestStreams.{sinks_of};
 ghost use Rattle.fasttrack_program.specs.Tracks.{board_for, RunsTracks};
 

@@ -1,7 +1,8 @@
 //! Reading the image and the input.
 
-ghost use Rattle.std.specs.Prelude.{◌≡◌, true};
-ghost use Rattle.fasttrack_program.specs.Reading.{ReadsImage, ReadsInput, ReadsWanted, CountsReadFault};
+ghost use Rattle.std.specs.Prelude.{◌≡◌, false, IsOk};
+ghost use Rattle.fasttrack_program.specs.Plan.{image_in, input_in};
+ghost use Rattle.fasttrack_program.specs.Reading.{CountsReadFault, Reads, loaded_image};
 
 use crate::answer::Answer;
 use elf32_loader::{ImageFault, Loaded, load};
@@ -20,7 +21,7 @@ const INPUT_LIMIT: u64 = 16_777_216;
 /// # Errors
 /// `ReadFault` where a read failed, `ImageTooLong` and `BadImage` where the file is refused, and `NoMemory`.
 pub fn read_image<F: Files>(alloc: Global, files: &mut F, name: &str) -> Result<Loaded, Answer>
-    ensures reads { ReadsImage (F.contents files.old name.now) result }
+    ensures reads { Reads image_in (F.contents files.old name.now) (loaded_image result) }
     ensures counted { CountsReadFault (F.faults files.old) (F.faults files.new) result }
     ensures held { F.contents files.new ≡ F.contents files.old }
 {
@@ -36,33 +37,22 @@ pub fn read_image<F: Files>(alloc: Global, files: &mut F, name: &str) -> Result<
     }
 }
 
-/// Reads the input whole.
+/// Reads the input whole, if it is wanted; else it is left unread, and the guest's is empty.
 ///
 /// # Errors
 /// `ReadFault` where a read failed, `InputTooLong` where the input is refused, and `NoMemory`.
-fn read_input<I: Source>(alloc: Global, input: &mut I) -> Result<Bytes, Answer>
-    ensures reads { ReadsInput (I.remaining input.old) result }
+pub fn read_input<I: Source>(alloc: Global, wanted: bool, input: &mut I) -> Result<Bytes, Answer>
+    ensures reads { Reads (input_in wanted) (I.remaining input.old) result }
     ensures counted { CountsReadFault (I.faults input.old) (I.faults input.new) result }
+    ensures unread { wanted ≡ false → (input.new ≡ input.old) × IsOk result }
 {
+    if !wanted {
+        return Ok(Bytes::new(alloc));
+    }
     match take_source(alloc, input, INPUT_LIMIT) {
         Took::Failed => Err(Answer::ReadFault),
         Took::TooLong => Err(Answer::InputTooLong),
         Took::NoMemory => Err(Answer::NoMemory),
         Took::Whole(bytes) => Ok(bytes),
     }
-}
-
-/// Reads the input whole, unless it is to be left unread: it is empty then.
-///
-/// # Errors
-/// `ReadFault` where a read failed, `InputTooLong` where the input is refused, and `NoMemory`.
-pub fn read_wanted<I: Source>(alloc: Global, no_input: bool, input: &mut I) -> Result<Bytes, Answer>
-    ensures reads { ReadsWanted no_input (I.remaining input.old) result }
-    ensures counted { CountsReadFault (I.faults input.old) (I.faults input.new) result }
-    ensures unread { no_input ≡ true → input.new ≡ input.old }
-{
-    if no_input {
-        return Ok(Bytes::new(alloc));
-    }
-    read_input(alloc, input)
 }
