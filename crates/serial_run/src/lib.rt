@@ -6,6 +6,3 @@ mod serial;
 
 pub use conducted::Conducted;
 pub use serial::conduct_serial;
-
-#[cfg(test)]
-mod tests;
