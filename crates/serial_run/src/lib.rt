@@ -6,6 +6,3 @@ mod serial;
 
 pub use conducted::Conducted;
 pub use serial::{answer_to, conduct_serial, take_verified, write_chunks};
-
-#[cfg(test)]
-mod tests;

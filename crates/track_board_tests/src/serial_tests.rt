@@ -1,13 +1,13 @@
-//! What no clause says: where a board stands after a write that failed, in worked programs.
+//! Where a board stands after a write of its serial run that failed, in worked programs.
 
 ghost use Rattle.std.specs.Prelude.{◌≡◌, ◌≤◌, [], length, IfOk};
 
-use crate::{Conducted, conduct_serial};
 use basic_types::Bytes;
 use board_events::read_entry;
 use elf32_loader::load;
 use host_io::MemorySink;
 use rv32_asm::small_image;
+use serial_run::{Conducted, conduct_serial};
 use std::alloc::Global;
 use std::sync::Arc;
 use std::test::Fail;
