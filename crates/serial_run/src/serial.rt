@@ -127,7 +127,11 @@ pub fn take_verified(board: &mut Board) -> Result<Chunks, NoMemory>
 ///
 /// # Errors
 /// `Failed` where a sink failed. They then have a beginning of the bytes that is shorter.
-pub fn write_chunks<O: Sink, N: Sink>(chunks: &Chunks, out: &mut O, notes: &mut N) -> Result<(), Failed>
+pub fn write_chunks<O: Sink, N: Sink>(
+    chunks: &Chunks,
+    out: &mut O,
+    notes: &mut N,
+) -> Result<(), Failed>
     ensures { WritesPiece
         (sinks_of O.Sink N.Sink out.old notes.old) (sinks_of O.Sink N.Sink out.new notes.new) chunks.now result }
 {
