@@ -1,6 +1,6 @@
 //! Laws about definitions, each the contract of a function that does nothing.
 
-ghost use Rattle.std.specs.Prelude.{◌≡◌, ◌≤◌, ◌⊎◌, ℕ, false, IsTrue, if◌then◌else◌, List, [], length, map, Ok, Option, Some};
+ghost use Rattle.std.specs.Prelude.{◌≡◌, ◌≤◌, ◌⊎◌, ℕ, false, IsTrue, if◌then◌else◌, List, [], ◌++◌, length, map, Ok, Option, Some};
 ghost use Rattle.host_io.specs.Faults.{Rose};
 ghost use Rattle.guest_model.specs.Image.{Image, image};
 ghost use Rattle.guest_model.specs.declared.difference.Difference.{Difference};
@@ -10,7 +10,14 @@ ghost use Rattle.guest_streams.specs.GuestStreams.{Sinks, StopsShort};
 ghost use Rattle.region_ledger.specs.Ledger.{ledger_rows};
 ghost use Rattle.region_ledger.specs.declared.row.Row.{Row};
 ghost use Rattle.speculation.specs.Ledger.{Row as LedgerRow};
+ghost use Rattle.speculation.specs.Core.{verified};
+ghost use Rattle.speculation.specs.Events.{event};
 ghost use Rattle.speculation.specs.declared.history.Entry.{Entry};
+ghost use Rattle.speculation.specs.declared.history.Entry.TheVariants.{Release};
+ghost use Rattle.speculation.specs.declared.history.Settings.{Settings};
+ghost use Rattle.guest_model.specs.Rv32.{rv32};
+ghost use Rattle.track_board.specs.Value.{GuestCore};
+ghost use Rattle.serial_run.specs.Quiet.{IsQuiet};
 ghost use Rattle.fasttrack_program.specs.Completeness.{DoesAll, IsComplete};
 ghost use Rattle.fasttrack_program.specs.Plan.{Does, Found, bench_image, image_limit, input_limit, is_file, options_of, plan};
 ghost use Rattle.fasttrack_program.specs.Promise.{Given, promise_of};
@@ -75,4 +82,13 @@ pub fn reports_never_depend_on_tracks()
         → (promise_of Trial).writes (record given { options = record given.options { tracks = tracks } }) entries ≡ (promise_of Trial).writes given entries }
     ensures run { (given : Given) (tracks : ℕ) (entries others : List Entry) → given.options.journal ≡ false
         → (promise_of Run).writes (record given { options = record given.options { tracks = tracks } }) entries ≡ (promise_of Run).writes given others }
+{}
+
+/// Output waits until it is verified: a release hands out exactly the verified bytes, which are those of judged tracks and
+/// those that the oldest track wrote within the budget. No other entry of a history hands out anything.
+pub fn output_waits_until_it_is_verified()
+    ensures release { (input : List ℕ) (settings : Settings) (core new : GuestCore) (count : ℕ)
+        → event (rv32 input) settings core (Release count) ≡ Some new → new.released ≡ core.released ++ verified settings core }
+    ensures others { (input : List ℕ) (settings : Settings) (core new : GuestCore) (entry : Entry) → IsQuiet entry
+        → event (rv32 input) settings core entry ≡ Some new → new.released ≡ core.released }
 {}
