@@ -35,36 +35,62 @@ fn sink(alloc: Global, failing: &[u64]) -> Result<MemorySink, Fault> {
     Ok(MemorySink::new(alloc, ROOM, Vec::from_slice(alloc, failing)?)?)
 }
 
+/// What a call of the program reads and writes.
+#[derive(Drop)]
+struct Objects {
+    files: MemoryFiles,
+    input: MemorySource,
+    out: MemorySink,
+    notes: MemorySink,
+    told: Histories,
+}
+
+/// The file `g`.
+fn files_of(alloc: Global, file: &[u8], failing: &[u64]) -> Result<MemoryFiles, Fault> {
+    let mut files = MemoryFiles::new(alloc, Vec::from_slice(alloc, failing)?);
+    files.add(String::from_str(alloc, "g")?, bytes_of(alloc, file)?)?;
+    Ok(files)
+}
+
+fn input_of(alloc: Global, input: &[u8], failing: &[u64]) -> Result<MemorySource, Fault> {
+    let bytes = bytes_of(alloc, input)?;
+    Ok(MemorySource::new(bytes, Vec::from_slice(alloc, failing)?))
+}
+
+/// What a run gives the program, where these calls fail.
+fn objects_of(alloc: Global, run: &Run, failing: Failing<'_>) -> Result<Objects, Fault> {
+    Ok(Objects {
+        files: files_of(alloc, run.file.as_slice(), failing.files)?,
+        input: input_of(alloc, run.input.as_slice(), failing.input)?,
+        out: sink(alloc, failing.out)?,
+        notes: sink(alloc, failing.notes)?,
+        told: Histories::new(alloc),
+    })
+}
+
+fn answer_of(alloc: Global, words: &[String], objects: &mut Objects) -> Option<Answer> {
+    plain_main(
+        alloc,
+        words,
+        &mut objects.files,
+        &mut objects.input,
+        &mut objects.out,
+        &mut objects.notes,
+        &mut objects.told,
+    )
+}
+
 /// Calls the program with what a run gives it, where these calls of its objects fail.
 pub fn call(alloc: Global, run: &Run, failing: Failing<'_>) -> Result<Got, Fault> {
-    let mut files = MemoryFiles::new(alloc, Vec::from_slice(alloc, failing.files)?);
-    files.add(
-        String::from_str(alloc, "g")?,
-        bytes_of(alloc, run.file.as_slice())?,
-    )?;
-    let mut input = MemorySource::new(
-        bytes_of(alloc, run.input.as_slice())?,
-        Vec::from_slice(alloc, failing.input)?,
-    );
-    let mut out = sink(alloc, failing.out)?;
-    let mut notes = sink(alloc, failing.notes)?;
-    let mut told = Histories::new(alloc);
-    let answer = plain_main(
-        alloc,
-        run.words.as_slice(),
-        &mut files,
-        &mut input,
-        &mut out,
-        &mut notes,
-        &mut told,
-    );
+    let mut objects = objects_of(alloc, run, failing)?;
+    let answer = answer_of(alloc, run.words.as_slice(), &mut objects);
     Ok(Got {
         answer: answer_text(alloc, answer)?,
         status: answer.map_or(WORKERS, |answer| status(&answer)),
-        out: Vec::from_slice(alloc, out.written())?,
-        notes: Vec::from_slice(alloc, notes.written())?,
-        histories: told.as_slice().len(),
-        history: text_of(alloc, &told)?,
+        out: Vec::from_slice(alloc, objects.out.written())?,
+        notes: Vec::from_slice(alloc, objects.notes.written())?,
+        histories: objects.told.as_slice().len(),
+        history: text_of(alloc, &objects.told)?,
     })
 }
 
