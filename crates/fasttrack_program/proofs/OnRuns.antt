@@ -1,5 +1,5 @@
 -- A run with tracks and the texts behind its output, and the summary of a bench
-use Rattle.std.proofs.Common.{◌≡◌, ◌≢◌, ℕ, ◌^◌, ◌<◌, ◌≤◌, true, List, [], ◌∷◌, ◌++◌, length, Option, Some, None, Ok, Err, inl, inr, refl, sym, ap, ◌∙◌, subst, append_assoc, append-nil, arith}
+use Rattle.std.proofs.Common.{◌≡◌, ◌≢◌, ℕ, ◌^◌, ◌<◌, ◌≤◌, true, List, [], ◌++◌, length, Option, Some, Ok, Err, inl, inr, refl, sym, ap, ◌∙◌, subst, append-nil, arith}
 use Rattle.std.specs.Prelude.{All, if◌then◌else◌}
 use Rattle.std.specs.Io.KnownBytes.{Appends}
 use Rattle.speculation.specs.declared.history.Entry.{Entry}
@@ -8,10 +8,8 @@ use Rattle.speculation.specs.Record.{alone, output_of}
 use Rattle.speculation.specs.Ledger.{originals}
 use Rattle.speculation.specs.Serial.{IsSerial}
 use Rattle.speculation.proofs.Records.{output-alone}
-use Rattle.guest_model.specs.Image.{Image, image, program_alone, start_of}
+use Rattle.guest_model.specs.Image.{image, program_alone, start_of}
 use Rattle.guest_model.specs.Rv32.{rv32}
-use Rattle.guest_model.specs.declared.end.End.{End}
-use Rattle.guest_model.specs.declared.end.End.TheVariants as E
 use Rattle.rv32_law.specs.GuestStates.{IsGuestState}
 use Rattle.rv32_law.proofs.Starts.{start-is-guest}
 use Rattle.rv32_law.proofs.OutputBounds.{out-bound}
@@ -21,7 +19,7 @@ use Rattle.elf32_loader.specs.declared.loaded.Loaded.{Loaded}
 use Rattle.region_ledger.specs.Ledger.{ledger_rows, totals_of, SavesAtMostAll}
 use Rattle.region_ledger.specs.declared.finished.Finished.{Finished}
 use Rattle.report_text.specs.Reports.{bench_lines}
-use Rattle.guest_streams.specs.GuestStreams.{Sinks, Gets, GetsAll, GetsPart, StopsShort, FailsAt, IsNext}
+use Rattle.guest_streams.specs.GuestStreams.{Sinks, Gets, GetsAll, GetsPart, StopsShort, FailsAt}
 use Rattle.guest_streams.specs.declared.fault.OutputFault.{OutputFault}
 use Rattle.guest_streams.specs.declared.fault.OutputFault.TheVariants.{Write, NoMemory}
 use Rattle.guest_streams.proofs.OnStreams.{Gets-nothing, IsCalm-refl, marked-append, IsNext-marked, WritesPiece-on_notes, GetsAll-more, StopsShort-amid, GetsPart-more}
