@@ -130,11 +130,11 @@ guest_of l input = start-is-guest input l.entry l.areas l.heap l.layout
 -- ---- a run
 
 -- its output broke off
-pub run-breaks : (l : Loaded) (input : List ℕ) (o : Options) → 1 ≤ o.tracks → (old mid : Sinks) (e : OutputFault) → BreaksOff e old mid (output_of (alone_on (given_of l input o)))
+pub run-breaks : (l : Loaded) (input : List ℕ) (o : Options) (old mid : Sinks) (e : OutputFault) → BreaksOff e old mid (output_of (alone_on (given_of l input o)))
     → KeepsPromise (promise_of Run) (given_of l input o) old mid (plainly (answer_of_fault e))
-run-breaks l input o some old mid e h =
+run-breaks l input o old mid e h =
     let g = given_of l input o in
-    let history = history_of_run g some (guest_of l input) in
+    let history = history_of_run g (guest_of l input) in
     kept-part (promise_of Run) g history.0 history.1 old mid e (BreaksOff-longer e old mid (output_of (alone_on g)) (marked 2 (texts_behind g history.0)) h)
 
 -- ---- a run that came to its end
@@ -242,11 +242,11 @@ pub never-fails : (old new : Sinks) (output : List Mark) → old.out_faults ≡ 
 never-fails old new output a b c d h = no-faults old new h.rest a b c d h.fails
 
 -- there was no memory for a bench, or it did not come to its end
-pub bench-breaks : (number : ℕ) (o : Options) → 1 ≤ o.tracks → (s : Sinks) → Keeps (bench_plan number o) s s (plainly A.NoMemory)
-bench-breaks number o some s =
+pub bench-breaks : (number : ℕ) (o : Options) (s : Sinks) → Keeps (bench_plan number o) s s (plainly A.NoMemory)
+bench-breaks number o s =
     let loads = bench-loads number in
     let g : Given = record { image = loads.0; input = []; options = o } in
-    let history = history_of_bench number loads.0 o some loads.1 in
+    let history = history_of_bench number loads.0 o loads.1 in
     let plan-is : bench_plan number o ≡ Does (promise_of (Bench number)) g = ap (λ r. plan_of (promise_of (Bench number)) o r (Ok [])) loads.1 in
     subst (λ p. Keeps p s s (plainly A.NoMemory)) (sym plan-is)
     (kept-part (promise_of (Bench number)) g history.0 history.1 s s NoMemory (GetsPart-nothing s ((promise_of (Bench number)).writes g history.0)))

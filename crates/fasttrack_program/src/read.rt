@@ -5,6 +5,7 @@ ghost use Rattle.fasttrack_program.specs.Plan.{image_in, input_in};
 ghost use Rattle.fasttrack_program.specs.Reading.{CountsReadFault, Reads, loaded_image};
 
 use crate::answer::Answer;
+use basic_types::MOST_INPUT;
 use elf32_loader::{ImageFault, Loaded, load};
 use guest_model::Bytes;
 use host_io::{Files, Source, Took, take_file, take_source};
@@ -12,9 +13,6 @@ use std::alloc::Global;
 
 /// The most bytes of an image file.
 const IMAGE_LIMIT: u64 = 33_554_432;
-
-/// The most bytes of an input.
-const INPUT_LIMIT: u64 = 16_777_216;
 
 /// Reads the image file `name` and loads its image.
 ///
@@ -49,7 +47,7 @@ pub fn read_input<I: Source>(alloc: Global, wanted: bool, input: &mut I) -> Resu
     if !wanted {
         return Ok(Bytes::new(alloc));
     }
-    match take_source(alloc, input, INPUT_LIMIT) {
+    match take_source(alloc, input, MOST_INPUT) {
         Took::Failed => Err(Answer::ReadFault),
         Took::TooLong => Err(Answer::InputTooLong),
         Took::NoMemory => Err(Answer::NoMemory),
