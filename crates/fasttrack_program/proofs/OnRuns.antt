@@ -22,7 +22,7 @@ use Rattle.report_text.specs.Reports.{bench_lines}
 use Rattle.guest_streams.specs.GuestStreams.{Sinks, Gets, GetsAll, GetsPart, StopsShort, FailsAt}
 use Rattle.guest_streams.specs.declared.fault.OutputFault.{OutputFault}
 use Rattle.guest_streams.specs.declared.fault.OutputFault.TheVariants.{Write, NoMemory}
-use Rattle.guest_streams.proofs.OnStreams.{Gets-nothing, IsCalm-refl, marked-append, IsNext-marked, WritesPiece-on_notes, GetsAll-more, StopsShort-amid, GetsPart-more}
+use Rattle.guest_streams.proofs.OnStreams.{marked-append, IsNext-marked, WritesPiece-on_notes, GetsAll-more, StopsShort-amid, GetsPart-more}
 use Rattle.track_board.specs.Value.{Posted}
 use Rattle.track_board.specs.declared.outcome.Outcome.{Outcome}
 use Rattle.serial_run.specs.Conducting.{IsWhole, IsSameRun, Conducts, released_total}
@@ -113,16 +113,7 @@ runs-conducted l input o v w old new r is same h = (w.entries, subst (λ x. Cond
 
 -- there was no board
 pub runs-nothing : (l : Loaded) (input : List ℕ) (o : Options) (s : Sinks) → RunsTracks l input o s s C.NoMemory
-runs-nothing l input o s = (
-  [],
-  record {
-    got = [];
-    rest = output_of (program_alone (image_of_loaded l) input o.budget);
-    parts = refl;
-    gets = Gets-nothing s;
-    calm = IsCalm-refl s;
-  },
-)
+runs-nothing l input o s = ([], GetsPart-nothing s (output_of (alone_on (given_of l input o))))
 
 guest_of : (l : Loaded) (input : List ℕ) → IsGuestState input (start_of (image_of_loaded l))
 guest_of l input = start-is-guest input l.entry l.areas l.heap l.layout

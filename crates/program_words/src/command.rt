@@ -5,7 +5,6 @@ ghost use Rattle.clap.specs.Words.{app_of, rule_of};
 ghost use Rattle.program_words.specs.CommandLine.{HeldTexts, budget_rule, command_rule, command_with, flag_rule, image_rule, option_rule, task_names, tracks_rule, workers_rule};
 ghost use Rattle.clap.specs.Walk.{texts};
 
-use basic_types::MOST_BUDGET;
 use clap::builder::ValueParser;
 use clap::{Arg, ArgAction, Command};
 use std::alloc::{AllocError, Global};
@@ -63,7 +62,7 @@ fn budget_arg<'a>(alloc: Global) -> Arg<'a>
     ensures rule { rule_of result ≡ budget_rule }
     ensures local { result.global ≡ false }
 {
-    let numbers = clap::value_parser!(u64).range(1..=MOST_BUDGET);
+    let numbers = clap::value_parser!(u64).range(1..=1_099_511_627_776);
     option_arg(alloc, "budget", numbers, "1099511627776")
 }
 
