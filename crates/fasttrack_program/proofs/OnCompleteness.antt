@@ -15,10 +15,10 @@ use Rattle.program_words.specs.CommandLine.{Request}
 use Rattle.program_words.specs.declared.request.Task.TheVariants.{Bench}
 use Rattle.fasttrack_program.specs.declared.served.Served.{Served}
 use Rattle.fasttrack_program.specs.declared.answer.Answer.{Answer}
-use Rattle.fasttrack_program.specs.declared.answer.Answer.TheVariants.{Exited, Trapped, Spent, Shown, Usage, ReadFault, ImageTooLong, BadImage, InputTooLong, WriteFault, NoMemory}
+use Rattle.fasttrack_program.specs.declared.answer.Answer.TheVariants.{ReadFault, NoMemory}
 use Rattle.fasttrack_program.specs.AnswerLine.{line_of, without_line, IsSaidFor, WritesLineOf, Concludes}
-use Rattle.fasttrack_program.specs.Completeness.{line_text, DoesAll, FollowsPlan, IsDone, IsComplete}
-use Rattle.fasttrack_program.specs.Plan.{Plan, Refused, Does, Found, is_file, image_limit, input_limit, options_of, plan}
+use Rattle.fasttrack_program.specs.Completeness.{line_text, DoesAll, FollowsPlan, IsComplete}
+use Rattle.fasttrack_program.specs.Plan.{Plan, Refused, Does, is_file, image_limit, input_limit, options_of, plan}
 use Rattle.fasttrack_program.specs.Promise.{Given, Promise, promise_of, IsHistory}
 use Rattle.fasttrack_program.specs.Reading.{Agrees, Known, FileFails, InputFails}
 use Rattle.fasttrack_program.specs.Serving.{plainly, wholly, IsKept, Keeps, IsStopped, IsServed}

@@ -1,13 +1,13 @@
 -- Promises that are kept whole or in part
-use Rattle.std.proofs.Common.{◌≡◌, ◌≢◌, ℕ, List, [], ◌∷◌, ◌++◌, inl, inr, refl, sym, ap, ◌∙◌, subst, append_assoc}
+use Rattle.std.proofs.Common.{◌≢◌, ℕ, List, [], ◌++◌, inl, inr, refl, sym, ap, ◌∙◌, subst, append_assoc}
 use Rattle.speculation.specs.declared.history.Entry.{Entry}
 use Rattle.speculation.specs.Run.{Mark}
 use Rattle.guest_model.specs.declared.end.End.{End}
 use Rattle.guest_model.specs.declared.end.End.TheVariants as E
-use Rattle.guest_streams.specs.GuestStreams.{Sinks, GetsAll, GetsPart, StopsShort, FailsAt, IsNext, end_of}
+use Rattle.guest_streams.specs.GuestStreams.{Sinks, GetsAll, GetsPart, StopsShort, end_of}
 use Rattle.guest_streams.specs.declared.fault.OutputFault.{OutputFault}
 use Rattle.guest_streams.specs.declared.fault.OutputFault.TheVariants.{Write, NoMemory}
-use Rattle.guest_streams.proofs.OnStreams.{Gets-nothing, IsCalm-refl}
+use Rattle.guest_streams.proofs.OnStreams.{GetsAll-nothing, StopsShort-amid, GetsPart-of}
 use Rattle.program_words.specs.declared.request.Task.{Task}
 use Rattle.program_words.specs.declared.request.Task.TheVariants.{Alone, Run, Trial, Bench}
 use Rattle.fasttrack_program.specs.declared.answer.Answer.{Answer}
@@ -25,26 +25,11 @@ BreaksOff NoMemory old new output = GetsPart old new output
 
 -- nothing was written
 pub GetsPart-nothing : (s : Sinks) (output : List Mark) → GetsPart s s output
-GetsPart-nothing s output = record { got = []; rest = output; parts = refl; gets = Gets-nothing s; calm = IsCalm-refl s }
+GetsPart-nothing s output = GetsPart-of s s [] output (GetsAll-nothing s)
 
--- ---- an output that broke off, with more behind it
-
-IsNext-longer : (stream : ℕ) (rest more : List Mark) → IsNext stream rest → IsNext stream (rest ++ more)
-IsNext-longer stream [] more h = absurd h
-IsNext-longer stream (m ∷ ms) more h = h
-
-FailsAt-longer : (s t : Sinks) (rest more : List Mark) → FailsAt s t rest → FailsAt s t (rest ++ more)
-FailsAt-longer s t rest more (inl h) = inl (h.0, h.1, IsNext-longer 1 rest more h.2)
-FailsAt-longer s t rest more (inr h) = inr (h.0, h.1, IsNext-longer 2 rest more h.2)
-
+-- an output that broke off, with more behind it
 pub BreaksOff-longer : (e : OutputFault) (s t : Sinks) (output more : List Mark) → BreaksOff e s t output → BreaksOff e s t (output ++ more)
-BreaksOff-longer Write s t output more h = record {
-  got = h.got;
-  rest = h.rest ++ more;
-  parts = sym (append_assoc h.got h.rest more) ∙ ap (λ ms. ms ++ more) h.parts;
-  gets = h.gets;
-  fails = FailsAt-longer s t h.rest more h.fails;
-}
+BreaksOff-longer Write s t output more h = StopsShort-amid s s t [] output more (GetsAll-nothing s) h
 BreaksOff-longer NoMemory s t output more h = record {
   got = h.got;
   rest = h.rest ++ more;

@@ -13,7 +13,7 @@ use Rattle.fasttrack_program.specs.declared.served.Served.{Served}
 use Rattle.fasttrack_program.specs.declared.answer.Answer.{Answer}
 use Rattle.fasttrack_program.specs.declared.answer.Answer.TheVariants.{Usage}
 use Rattle.fasttrack_program.specs.Plan.{Plan, Refused, Does, Found, options_of, is_file, reads_input, image_in, image_limit, image_for, input_in, input_limit, plan_of, bench_plan, plan}
-use Rattle.fasttrack_program.specs.Promise.{Given, Guest, FromFile, ForBench, promise_of}
+use Rattle.fasttrack_program.specs.Promise.{Guest, FromFile, ForBench, promise_of}
 use Rattle.fasttrack_program.specs.Reading.{Agrees, Known, AgreesWith, IsUnread, Reads}
 use Rattle.fasttrack_program.specs.Serving.{plainly, KeepsPromise, Keeps, IsServed}
 use Rattle.fasttrack_program.specs.Tracks.{given_of}

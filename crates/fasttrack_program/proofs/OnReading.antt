@@ -10,9 +10,9 @@ use Rattle.guest_model.specs.Image.{Image}
 use Rattle.program_words.specs.CommandLine.{Request}
 use Rattle.fasttrack_program.specs.Plan.{is_file, reads_file, reads_input, image_in, image_limit, input_in, input_limit}
 use Rattle.fasttrack_program.specs.Promise.{promise_of}
-use Rattle.fasttrack_program.specs.Reading.{Agrees, known_file, IsUnread, Reads, CountsReadFault, IsRefusedEarly, ReadsInOrder}
+use Rattle.fasttrack_program.specs.Reading.{Agrees, known_file, Reads, CountsReadFault, IsRefusedEarly, ReadsInOrder}
 use Rattle.fasttrack_program.specs.declared.answer.Answer.{Answer}
-use Rattle.fasttrack_program.specs.declared.answer.Answer.TheVariants.{ReadFault, ImageTooLong, InputTooLong, NoMemory}
+use Rattle.fasttrack_program.specs.declared.answer.Answer.TheVariants.{ReadFault, ImageTooLong, InputTooLong}
 use Rattle.fasttrack_program.proofs.OnPlans.{some_bytes, some_agree, reads_input-is}
 
 -- some bytes that are too many: those that are known, where they are

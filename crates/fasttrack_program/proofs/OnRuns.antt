@@ -1,5 +1,5 @@
 -- A run with tracks and the texts behind its output, and the summary of a bench
-use Rattle.std.proofs.Common.{◌≡◌, ◌≢◌, ℕ, ◌^◌, ◌<◌, ◌≤◌, true, List, [], ◌∷◌, ◌++◌, length, Option, Some, None, Ok, Err, inl, inr, refl, sym, ap, ◌∙◌, subst, append_assoc, append-nil, arith}
+use Rattle.std.proofs.Common.{◌≡◌, ◌≢◌, ℕ, ◌^◌, ◌<◌, ◌≤◌, true, List, [], ◌++◌, length, Option, Some, Ok, Err, inl, inr, refl, sym, ap, ◌∙◌, subst, append-nil, arith}
 use Rattle.std.specs.Prelude.{All, if◌then◌else◌}
 use Rattle.std.specs.Io.KnownBytes.{Appends}
 use Rattle.speculation.specs.declared.history.Entry.{Entry}
@@ -8,10 +8,8 @@ use Rattle.speculation.specs.Record.{alone, output_of}
 use Rattle.speculation.specs.Ledger.{originals}
 use Rattle.speculation.specs.Serial.{IsSerial}
 use Rattle.speculation.proofs.Records.{output-alone}
-use Rattle.guest_model.specs.Image.{Image, image, program_alone, start_of}
+use Rattle.guest_model.specs.Image.{image, program_alone, start_of}
 use Rattle.guest_model.specs.Rv32.{rv32}
-use Rattle.guest_model.specs.declared.end.End.{End}
-use Rattle.guest_model.specs.declared.end.End.TheVariants as E
 use Rattle.rv32_law.specs.GuestStates.{IsGuestState}
 use Rattle.rv32_law.proofs.Starts.{start-is-guest}
 use Rattle.rv32_law.proofs.OutputBounds.{out-bound}
@@ -21,10 +19,10 @@ use Rattle.elf32_loader.specs.declared.loaded.Loaded.{Loaded}
 use Rattle.region_ledger.specs.Ledger.{ledger_rows, totals_of, SavesAtMostAll}
 use Rattle.region_ledger.specs.declared.finished.Finished.{Finished}
 use Rattle.report_text.specs.Reports.{bench_lines}
-use Rattle.guest_streams.specs.GuestStreams.{Sinks, Gets, GetsAll, GetsPart, StopsShort, FailsAt, IsNext}
+use Rattle.guest_streams.specs.GuestStreams.{Sinks, Gets, GetsAll, GetsPart, StopsShort, FailsAt}
 use Rattle.guest_streams.specs.declared.fault.OutputFault.{OutputFault}
 use Rattle.guest_streams.specs.declared.fault.OutputFault.TheVariants.{Write, NoMemory}
-use Rattle.guest_streams.proofs.OnStreams.{Gets-nothing, IsCalm-refl, marked-append, IsNext-marked, WritesPiece-on_notes, GetsAll-more, StopsShort-amid, GetsPart-more}
+use Rattle.guest_streams.proofs.OnStreams.{marked-append, IsNext-marked, WritesPiece-on_notes, GetsAll-more, StopsShort-amid, GetsPart-more}
 use Rattle.track_board.specs.Value.{Posted}
 use Rattle.track_board.specs.declared.outcome.Outcome.{Outcome}
 use Rattle.serial_run.specs.Conducting.{IsWhole, IsSameRun, Conducts, released_total}
@@ -115,16 +113,7 @@ runs-conducted l input o v w old new r is same h = (w.entries, subst (λ x. Cond
 
 -- there was no board
 pub runs-nothing : (l : Loaded) (input : List ℕ) (o : Options) (s : Sinks) → RunsTracks l input o s s C.NoMemory
-runs-nothing l input o s = (
-  [],
-  record {
-    got = [];
-    rest = output_of (program_alone (image_of_loaded l) input o.budget);
-    parts = refl;
-    gets = Gets-nothing s;
-    calm = IsCalm-refl s;
-  },
-)
+runs-nothing l input o s = ([], GetsPart-nothing s (output_of (alone_on (given_of l input o))))
 
 guest_of : (l : Loaded) (input : List ℕ) → IsGuestState input (start_of (image_of_loaded l))
 guest_of l input = start-is-guest input l.entry l.areas l.heap l.layout
@@ -132,11 +121,11 @@ guest_of l input = start-is-guest input l.entry l.areas l.heap l.layout
 -- ---- a run
 
 -- its output broke off
-pub run-breaks : (l : Loaded) (input : List ℕ) (o : Options) → 1 ≤ o.tracks → (old mid : Sinks) (e : OutputFault) → BreaksOff e old mid (output_of (alone_on (given_of l input o)))
+pub run-breaks : (l : Loaded) (input : List ℕ) (o : Options) (old mid : Sinks) (e : OutputFault) → BreaksOff e old mid (output_of (alone_on (given_of l input o)))
     → KeepsPromise (promise_of Run) (given_of l input o) old mid (plainly (answer_of_fault e))
-run-breaks l input o some old mid e h =
+run-breaks l input o old mid e h =
     let g = given_of l input o in
-    let history = history_of_run g some (guest_of l input) in
+    let history = history_of_run g (guest_of l input) in
     kept-part (promise_of Run) g history.0 history.1 old mid e (BreaksOff-longer e old mid (output_of (alone_on g)) (marked 2 (texts_behind g history.0)) h)
 
 -- ---- a run that came to its end
@@ -244,11 +233,11 @@ pub never-fails : (old new : Sinks) (output : List Mark) → old.out_faults ≡ 
 never-fails old new output a b c d h = no-faults old new h.rest a b c d h.fails
 
 -- there was no memory for a bench, or it did not come to its end
-pub bench-breaks : (number : ℕ) (o : Options) → 1 ≤ o.tracks → (s : Sinks) → Keeps (bench_plan number o) s s (plainly A.NoMemory)
-bench-breaks number o some s =
+pub bench-breaks : (number : ℕ) (o : Options) (s : Sinks) → Keeps (bench_plan number o) s s (plainly A.NoMemory)
+bench-breaks number o s =
     let loads = bench-loads number in
     let g : Given = record { image = loads.0; input = []; options = o } in
-    let history = history_of_bench number loads.0 o some loads.1 in
+    let history = history_of_bench number loads.0 o loads.1 in
     let plan-is : bench_plan number o ≡ Does (promise_of (Bench number)) g = ap (λ r. plan_of (promise_of (Bench number)) o r (Ok [])) loads.1 in
     subst (λ p. Keeps p s s (plainly A.NoMemory)) (sym plan-is)
     (kept-part (promise_of (Bench number)) g history.0 history.1 s s NoMemory (GetsPart-nothing s ((promise_of (Bench number)).writes g history.0)))

@@ -1,5 +1,5 @@
 -- What a call reads, and what the reading of bytes answers
-use Rattle.std.specs.Prelude.{◌≡◌, ◌≢◌, ℕ, Bool, true, false, List, Option, Some, None, IfSome, IsTrue, Result, Ok, Err, ◌⊎◌}
+use Rattle.std.specs.Prelude.{◌≡◌, ◌≢◌, ℕ, false, List, Option, Some, None, IfSome, IsTrue, Result, Ok, Err, ◌⊎◌}
 use Rattle.host_io.specs.Faults.{Rose}
 use Rattle.host_io.specs.declared.files.Files.{Ghosts as FilesRow}
 use Rattle.host_io.specs.declared.source.Source.{Ghosts as SourceRow}

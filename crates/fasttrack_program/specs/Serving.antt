@@ -1,5 +1,5 @@
--- How far a call's plan is kept, up to the line that tells its answer
-use Rattle.std.specs.Prelude.{◌≡◌, ℕ, if◌then◌else◌, List, Option, Some, None, IfSome, ◌⊎◌}
+-- How far the plan of a call is kept, up to the line of its answer
+use Rattle.std.specs.Prelude.{◌≡◌, if◌then◌else◌, List, Option, Some, None, ◌⊎◌}
 use Rattle.speculation.specs.declared.history.Entry.{Entry}
 use Rattle.guest_streams.specs.GuestStreams.{Sinks, GetsAll, GetsPart, StopsShort}
 use Rattle.program_words.specs.CommandLine.{Request}

@@ -1,5 +1,5 @@
 -- What a call of the program answers, what it leaves on `out` and `notes`, and which history it hands out
-use Rattle.std.specs.Prelude.{◌≡◌, ℕ, Bool, true, false, ◌&&◌, nat_le, IsTrue, if◌then◌else◌, List, [], ◌∷◌, ◌++◌, Option, Some, None, ◌⊎◌}
+use Rattle.std.specs.Prelude.{◌≡◌, Bool, true, false, ◌&&◌, nat_le, IsTrue, if◌then◌else◌, List, [], ◌∷◌, ◌++◌, Option, Some, None, ◌⊎◌}
 use Rattle.speculation.specs.declared.history.Entry.{Entry}
 use Rattle.guest_streams.specs.GuestStreams.{Sinks}
 use Rattle.program_words.specs.CommandLine.{Request}
@@ -48,6 +48,6 @@ needs_workers (Some r) = (promise_of r.task).has_tracks && nat_le 1 r.workers
 
 -- No answer exactly where the words ask for workers, unless memory ran out before they were read. `untouched` says that
 -- nothing was read, written or told.
-abbrev pub LeavesWorkers : Option Request → Option Answer → Type 0 → Type 0
-LeavesWorkers request None untouched = IsTrue (needs_workers request) × untouched
-LeavesWorkers request (Some answer) untouched = (answer ≡ NoMemory) ⊎ (needs_workers request ≡ false)
+abbrev pub NoneForWorkers : Option Request → Option Answer → Type 0 → Type 0
+NoneForWorkers request None untouched = IsTrue (needs_workers request) × untouched
+NoneForWorkers request (Some answer) untouched = (answer ≡ NoMemory) ⊎ (needs_workers request ≡ false)

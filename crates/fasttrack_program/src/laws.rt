@@ -61,9 +61,9 @@ pub fn bench_images_load()
     ensures { (number : ℕ) → (i : Image) × (bench_image number ≡ Ok i) }
 {}
 
-/// The rows of a ledger and those that are reported of it say the same: there and back is the identity. So the totals of
-/// the reported rows are those of the ledger.
-pub fn rows_report_the_ledger()
+/// The rows of a ledger and the rows that are reported are as good as each other: there and back is the identity. So the
+/// totals of the rows that are reported are those of the ledger.
+pub fn reported_rows_are_the_ledger()
     ensures ledger { (rows : List (LedgerRow Difference)) → ledger_rows (map reported_row rows) ≡ rows }
     ensures reported { (rows : List Row) → map reported_row (ledger_rows rows) ≡ rows }
 {}

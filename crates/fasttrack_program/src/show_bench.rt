@@ -13,7 +13,7 @@ ghost use Rattle.guest_streams.specs.GuestStreams.{Sinks, with_out};
 ghost use Rattle.fasttrack_program.specs.Plan.{bench_plan, bench_regions};
 ghost use Rattle.fasttrack_program.specs.Promise.{settings_of};
 ghost use Rattle.fasttrack_program.specs.Serving.{Keeps};
-ghost use Rattle.fasttrack_program.specs.TextOnSink.{WritesText};
+ghost use Rattle.fasttrack_program.specs.TextOnSink.{WritesOn};
 
 use crate::answer::{Answer, answer_of_fault};
 use crate::boards::run_counted;
@@ -103,8 +103,7 @@ fn write_summary<O: Sink>(
     requires inside { originals (ledger_rows rows.now) ≤ finished.now.count }
     requires saves { All SavesAtMostAll rows.now }
     requires size { released_total entries.now < 2 ^ 64 }
-    ensures { WritesText (O.contents out.old) (O.contents out.new) (O.faults out.old) (O.faults out.new)
-        (bench_lines number (totals_of rows.now finished.now.count) (released_total entries.now) finished.now.end) result }
+    ensures { WritesOn O.Sink out.old out.new (bench_lines number (totals_of rows.now finished.now.count) (released_total entries.now) finished.now.end) result }
 {
     let totals = totals(rows, finished.count);
     let text = bench_text(

@@ -9,7 +9,7 @@ ghost use Rattle.guest_streams.specs.GuestStreams.{sinks_of};
 ghost use Rattle.fasttrack_program.specs.Promise.{promise_of, settings_of};
 ghost use Rattle.fasttrack_program.specs.Reports.{asked_report, asked_journal, asked_texts};
 ghost use Rattle.fasttrack_program.specs.Serving.{KeepsPromise};
-ghost use Rattle.fasttrack_program.specs.TextOnSink.{WritesText};
+ghost use Rattle.fasttrack_program.specs.TextOnSink.{WritesOn};
 ghost use Rattle.fasttrack_program.specs.Tracks.{given_of};
 
 use crate::answer::{Answer, answer_of, answer_of_fault};
@@ -85,8 +85,7 @@ fn write_texts<N: Sink>(
 ) -> Result<(), OutputFault>
     requires inside { originals (ledger_rows rows.now) ≤ finished.now.count }
     requires saves { All SavesAtMostAll rows.now }
-    ensures { WritesText (N.contents notes.old) (N.contents notes.new) (N.faults notes.old) (N.faults notes.new)
-        (asked_texts options.now rows.now finished.now entries.now) result }
+    ensures { WritesOn N.Sink notes.old notes.new (asked_texts options.now rows.now finished.now entries.now) result }
 {
     write_asked_report(alloc, options, rows, finished, notes)?;
     write_asked_journal(alloc, options, entries, notes)
@@ -102,8 +101,7 @@ fn write_asked_report<N: Sink>(
 ) -> Result<(), OutputFault>
     requires inside { originals (ledger_rows rows.now) ≤ finished.now.count }
     requires saves { All SavesAtMostAll rows.now }
-    ensures { WritesText (N.contents notes.old) (N.contents notes.new) (N.faults notes.old) (N.faults notes.new)
-        (asked_report options.now rows.now finished.now) result }
+    ensures { WritesOn N.Sink notes.old notes.new (asked_report options.now rows.now finished.now) result }
 {
     if !options.report {
         return Ok(());
@@ -118,8 +116,7 @@ fn write_asked_journal<N: Sink>(
     entries: &[Entry],
     notes: &mut N,
 ) -> Result<(), OutputFault>
-    ensures { WritesText (N.contents notes.old) (N.contents notes.new) (N.faults notes.old) (N.faults notes.new)
-        (asked_journal options.now entries.now) result }
+    ensures { WritesOn N.Sink notes.old notes.new (asked_journal options.now entries.now) result }
 {
     if !options.journal {
         return Ok(());

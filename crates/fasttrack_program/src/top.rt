@@ -6,7 +6,7 @@ ghost use Rattle.program_words.specs.CommandLine.{asked, request_of};
 ghost use Rattle.fasttrack_program.specs.Completeness.{NothingFailed, IsComplete};
 ghost use Rattle.fasttrack_program.specs.Reading.{ReadsInOrder, known_of};
 ghost use Rattle.fasttrack_program.specs.Serving.{IsServed};
-ghost use Rattle.fasttrack_program.specs.TopCall.{IsAnswered, LeavesWorkers, needs_workers};
+ghost use Rattle.fasttrack_program.specs.TopCall.{IsAnswered, NoneForWorkers, needs_workers};
 
 use crate::answer::Answer;
 use crate::answer_line::conclude;
@@ -56,7 +56,7 @@ pub fn plain_main<F: Files, I: Source, O: Sink, N: Sink>(
         IfSome result (λ answer. NothingFailed F.Files I.Source files.old files.new input.old input.new before after
         → IsComplete request (known_of F.Files I.Source request files.old input.old) before after answer) }
     ensures reads { IfSome result (ReadsInOrder F.Files I.Source (request_of (map string_bytes words.now)) files.old files.new input.old input.new) }
-    ensures workers { LeavesWorkers (request_of (map string_bytes words.now)) result
+    ensures workers { NoneForWorkers (request_of (map string_bytes words.now)) result
         ((files.new ≡ files.old) × (input.new ≡ input.old) × (out.new ≡ out.old) × (notes.new ≡ notes.old) × (told.new ≡ told.old)) }
     ensures held { F.contents files.new ≡ F.contents files.old }
 {
@@ -88,7 +88,7 @@ fn serve_words<F: Files, I: Source, O: Sink, N: Sink>(
         IfSome result (IsServed request (known_of F.Files I.Source request files.old input.old)
         (sinks_of O.Sink N.Sink out.old notes.old) (sinks_of O.Sink N.Sink out.new notes.new)) }
     ensures reads { IfSome result (λ served. ReadsInOrder F.Files I.Source (request_of (map string_bytes words.now)) files.old files.new input.old input.new served.answer) }
-    ensures workers { LeavesWorkers (request_of (map string_bytes words.now)) (option_map (λ served. served.answer) result)
+    ensures workers { NoneForWorkers (request_of (map string_bytes words.now)) (option_map (λ served. served.answer) result)
         ((files.new ≡ files.old) × (input.new ≡ input.old) × (out.new ≡ out.old) × (notes.new ≡ notes.old)) }
     ensures held { F.contents files.new ≡ F.contents files.old }
     ensures items { histories.new.items ≡ histories.old.items }

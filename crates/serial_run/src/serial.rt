@@ -1,6 +1,6 @@
 //! A run with tracks on one thread.
 
-ghost use Rattle.std.specs.Prelude.{◌≡◌, [], true, MatchResult};
+ghost use Rattle.std.specs.Prelude.{◌≡◌, [], IsTrue, MatchResult};
 ghost use Rattle.speculation.specs.Core.{over};
 ghost use Rattle.guest_streams.specs.GuestStreams.{WritesPiece, sinks_of};
 ghost use Rattle.track_board.specs.Value.{IsKnown, core_of};
@@ -30,7 +30,7 @@ pub fn conduct_serial<O: Sink, N: Sink>(board: &mut Board, out: &mut O, notes: &
     requires fresh { board.old.entries ≡ [] }
     ensures conducts { Conducts board.new
         (sinks_of O.Sink N.Sink out.old notes.old) (sinks_of O.Sink N.Sink out.new notes.new) result }
-    ensures over { over (core_of board.new) ≡ true }
+    ensures over { IsTrue (over (core_of board.new)) }
     ensures same { IsSameRun board.old board.new }
     ensures known { IsKnown board.new }
     ensures failure { AfterFailure board.new

@@ -1,14 +1,13 @@
-use Rattle.std.proofs.Common.{◌≡◌, Some, Ok, Err, refl, subst}
+use Rattle.std.proofs.Common.{Some, Ok, Err, refl, subst}
 use Rattle.std.specs.Prelude.{IsTrue}
 use Rattle.elf32_loader.specs.LoadedImage.{image_of_loaded}
 use Rattle.elf32_loader.specs.declared.loaded.Loaded.{Loaded}
 use Rattle.guest_streams.specs.GuestStreams.{Sinks, sinks_of, with_out}
 use Rattle.program_words.specs.CommandLine.{Request, asked}
-use Rattle.fasttrack_program.specs.declared.served.Served.{Served}
 use Rattle.fasttrack_program.specs.Plan.{bench_plan, is_file}
 use Rattle.fasttrack_program.specs.Promise.{promise_of}
-use Rattle.fasttrack_program.specs.Reading.{Known, known_of, ReadsInOrder}
-use Rattle.fasttrack_program.specs.Serving.{KeepsPromise, Keeps, IsServed}
+use Rattle.fasttrack_program.specs.Reading.{Known, known_of}
+use Rattle.fasttrack_program.specs.Serving.{KeepsPromise, Keeps}
 use Rattle.fasttrack_program.specs.Tracks.{given_of}
 use Rattle.fasttrack_program.proofs.OnKeeping.{task-read, task-late}
 use Rattle.fasttrack_program.proofs.OnPlans.{no_bench, served-image, served-input, served-task, served-bench}

@@ -14,12 +14,12 @@ use Rattle.fasttrack_program.proofs.show_bench.show_bench.Goals as goal
 pub returns-in_default : goal.returns-in_default
 returns-in_default g c = λ (s : Sinks).
     let before = with_out g.O.Sink c.args.out.now s in
-    subst (Keeps (bench_plan c.args.number c.args.options.now) before before) (sym c.plain.ensures) (bench-breaks c.args.number c.args.options.now c.requires.some before)
+    subst (Keeps (bench_plan c.args.number c.args.options.now) before before) (sym c.plain.ensures) (bench-breaks c.args.number c.args.options.now before)
 
 pub returns-in_default-run_counted : goal.returns-in_default-run_counted
 returns-in_default-run_counted g c = λ (s : Sinks).
     let before = with_out g.O.Sink c.args.out.now s in
-    subst (Keeps (bench_plan c.args.number c.args.options.now) before before) (sym c.plain-in_default-run_counted.ensures) (bench-breaks c.args.number c.args.options.now c.requires.some before)
+    subst (Keeps (bench_plan c.args.number c.args.options.now) before before) (sym c.plain-in_default-run_counted.ensures) (bench-breaks c.args.number c.args.options.now before)
 
 pub write_summary-requires-clause-inside : goal.write_summary-requires-clause-inside
 write_summary-requires-clause-inside g c =

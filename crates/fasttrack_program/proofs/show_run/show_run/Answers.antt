@@ -18,14 +18,14 @@ returns-in-WriteFault g c =
     let before : Sinks = sinks_of g.O.Sink g.N.Sink c.args.out.now c.args.notes.now in
     let after : Sinks = sinks_of g.O.Sink g.N.Sink c.run_tracks.new.out c.run_tracks.new.notes in
     subst (KeepsPromise (promise_of Run) (given_of c.args.loaded.now c.args.input c.args.options.now) before after) (sym c.plain.ensures)
-    (run-breaks c.args.loaded.now c.args.input c.args.options.now c.requires.some before after Write c.in-WriteFault.ensures.1)
+    (run-breaks c.args.loaded.now c.args.input c.args.options.now before after Write c.in-WriteFault.ensures.1)
 
 pub returns-in-NoMemory : goal.returns-in-NoMemory
 returns-in-NoMemory g c =
     let before : Sinks = sinks_of g.O.Sink g.N.Sink c.args.out.now c.args.notes.now in
     let after : Sinks = sinks_of g.O.Sink g.N.Sink c.run_tracks.new.out c.run_tracks.new.notes in
     subst (KeepsPromise (promise_of Run) (given_of c.args.loaded.now c.args.input c.args.options.now) before after) (sym c.plain-in-NoMemory.ensures)
-    (run-breaks c.args.loaded.now c.args.input c.args.options.now c.requires.some before after NoMemory c.in-NoMemory.ensures.1)
+    (run-breaks c.args.loaded.now c.args.input c.args.options.now before after NoMemory c.in-NoMemory.ensures.1)
 
 pub write_texts-requires-clause-inside : goal.write_texts-requires-clause-inside
 write_texts-requires-clause-inside g c =

@@ -1,4 +1,4 @@
-use Rattle.std.proofs.Common.{Ok, Err, List, [], refl, ap, ◌∙◌}
+use Rattle.std.proofs.Common.{Ok, Err, [], refl, ap, ◌∙◌}
 use Rattle.guest_streams.specs.GuestStreams.{Sinks, with_out}
 use Rattle.program_words.specs.declared.request.Task.TheVariants.{Trial}
 use Rattle.elf32_loader.specs.LoadedImage.{image_of_loaded}
