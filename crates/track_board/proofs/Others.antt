@@ -101,6 +101,11 @@ home-stays v w seat loan known after h out =
           (λ t. TrackStands v.input v.settings.budget loan.track true (run_on (machine_of v) t (slice (machine_of v) v.settings t))) out.ran;
     })
 
+-- a name that is lent to a seat stays lent to it
+pub lent-stays : (v w : Posted) (seat : ℕ) (n : Name) → IsKnown v → IsKnown w → OthersAct seat v w → IsLoanOf v seat n → IsLoanOf w seat n
+lent-stays v w seat n known after h lent =
+    subst (λ (x : Posted). IsLoanOf x seat n) (sym h.is) (stays-lent v h.rest known (known-extended seat v w h after) seat h.foreign n lent)
+
 -- ---- lent, and run
 
 -- what was lent is out
@@ -186,10 +191,10 @@ pub others-lend : (seat other : ℕ) (v w : Posted) (loan : Loan) → other ≢ 
 others-lend seat other v w loan differ h = others-one seat v w (E.Lend other loan.name) (Some other) refl (apart-some other seat differ) h.entry
 
 -- the loans are told by the entries
-loans-told : (v : Posted) → IsKnown v → (core_of v).loans ≡ loans_after [] v.entries
+pub loans-told : (v : Posted) → IsKnown v → (core_of v).loans ≡ loans_after [] v.entries
 loans-told v h = run-loans (machine_of v) v.settings v.entries (Some (opening (start_state v))) (opening (start_state v)) (core_of v) refl h.legal
 
-seat-told : (v : Posted) (other : ℕ) (n : Name) → IsKnown v → IsLoanOf v other n → seat_of (find_loan n (loans_after [] v.entries)) ≡ Some other
+pub seat-told : (v : Posted) (other : ℕ) (n : Name) → IsKnown v → IsLoanOf v other n → seat_of (find_loan n (loans_after [] v.entries)) ≡ Some other
 seat-told v other n h lent = ap (λ (ls : List OpenLoan). seat_of (find_loan n ls)) (sym (loans-told v h)) ∙ ap seat_of lent.1 ∙ ap Some lent.2
 
 owner-back : (v : Posted) (other : ℕ) (n : Name) (result : Back) → seat_of (find_loan n (loans_after [] v.entries)) ≡ Some other → owner_of v.entries (back_entry v n result) ≡ Some other

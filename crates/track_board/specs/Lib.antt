@@ -11,3 +11,4 @@ pub mod Releasing
 pub mod LendTests
 pub mod Lends
 pub mod Others
+pub mod Owners

@@ -11,6 +11,7 @@ mod due;
 mod forking;
 mod judging;
 mod keeping;
+mod kept;
 pub mod laws;
 mod lendable;
 mod lending;
@@ -28,6 +29,7 @@ mod settle;
 mod slot;
 
 pub use board::Board;
+pub use kept::Program;
 pub use loan::{Back, Loan};
 pub use outcome::Outcome;
 pub use region_ledger::Finished;

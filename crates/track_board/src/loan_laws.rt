@@ -23,10 +23,11 @@ pub fn loans_come_home()
 {}
 
 /// While only others act a loan stays out with its seat, and what may come home still may: either no discard drops the track,
-/// and then it is the live track of its name, or nothing is asked of it.
+/// and then it is the live track of its name, or nothing is asked of it. The name stays lent to the seat, whatever became of the track.
 pub fn loans_stay_lent()
     ensures out { (v w : Posted) (seat : ℕ) (loan : Loan) → IsKnown v → IsKnown w → OthersAct seat v w → IsOut v seat loan → IsOut w seat loan }
     ensures home { (v w : Posted) (seat : ℕ) (loan : Loan) → IsKnown v → IsKnown w → OthersAct seat v w → MayComeHome v seat loan → MayComeHome w seat loan }
+    ensures lent { (v w : Posted) (seat : ℕ) (n : Name) → IsKnown v → IsKnown w → OthersAct seat v w → IsLoanOf v seat n → IsLoanOf w seat n }
 {}
 
 /// Due events belong to no seat, what is released to seat 0, and what goes out or halts the board to the seat that did it.
