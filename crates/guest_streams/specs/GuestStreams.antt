@@ -4,6 +4,7 @@ use Rattle.std.specs.Io.KnownBytes.{Appends}
 use Rattle.speculation.specs.Run.{Mark, stream_bytes}
 use Rattle.speculation.specs.Record.{Ran, output_of}
 use Rattle.host_io.specs.Faults.{Rose}
+use Rattle.host_io.specs.declared.sink.Sink.{Ghosts as SinkRow}
 use Rattle.guest_model.specs.declared.end.End.{End}
 use Rattle.guest_model.specs.declared.end.End.TheVariants.{Spent}
 use Rattle.guest_streams.specs.declared.fault.OutputFault.{OutputFault}
@@ -20,6 +21,10 @@ pub record Sinks : Type 0 where
   pub out_faults : ℕ
   pub notes : Option (List ℕ)
   pub notes_faults : ℕ
+
+-- Two sinks as that. In a clause the rows of their bounds are `O.Sink` and `N.Sink`.
+abbrev pub sinks_of : {O N : Type 0} → SinkRow O → SinkRow N → O → N → Sinks
+sinks_of o n out notes = record { out = o.contents out; out_faults = o.faults out; notes = n.contents notes; notes_faults = n.faults notes }
 
 -- both sinks got the two streams of these marked bytes, each where it tells
 pub record Gets (old new : Sinks) (ms : List Mark) : Type 0 where

@@ -2,7 +2,7 @@
 
 ghost use Rattle.std.specs.Prelude.{◌≡◌, ◌⊎◌};
 ghost use Rattle.speculation.specs.Run.{marked};
-ghost use Rattle.guest_streams.specs.GuestStreams.{WritesPiece};
+ghost use Rattle.guest_streams.specs.GuestStreams.{WritesPiece, sinks_of};
 
 use host_io::{Failed, Sink, write_whole};
 
@@ -18,8 +18,7 @@ pub fn write_piece<O: Sink, N: Sink>(
 ) -> Result<(), Failed>
     requires { (stream ≡ 1) ⊎ (stream ≡ 2) }
     ensures { WritesPiece
-        (record { out = O.contents out.old; out_faults = O.faults out.old; notes = N.contents notes.old; notes_faults = N.faults notes.old })
-        (record { out = O.contents out.new; out_faults = O.faults out.new; notes = N.contents notes.new; notes_faults = N.faults notes.new })
+        (sinks_of O.Sink N.Sink out.old notes.old) (sinks_of O.Sink N.Sink out.new notes.new)
         (marked stream piece.now) result }
 {
     if stream == 1 {
