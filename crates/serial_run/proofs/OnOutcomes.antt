@@ -58,7 +58,7 @@ underway-first v h = record {
   running = ap (λ (c : GuestCore). c.halted) (opening-core v h);
 }
 
-released-first : (v : Posted) → v.entries ≡ [] → (core_of v).released ≡ []
+pub released-first : (v : Posted) → v.entries ≡ [] → (core_of v).released ≡ []
 released-first v h = ap (λ (c : GuestCore). c.released) (opening-core v h)
 
 -- ---- how they go on
@@ -197,18 +197,18 @@ module _ (u v w : Posted) (s t : Sinks) (fresh : u.entries ≡ []) (known : IsKn
 
 -- ---- a board at its end
 
-end_of-core_end : (e : End) → end_of (core_end e) ≡ e
+pub end_of-core_end : (e : End) → end_of (core_end e) ≡ e
 end_of-core_end (Exit code) = refl
 end_of-core_end (Trap trap pc) = refl
 end_of-core_end Spent = refl
 
 -- the finish of an outcome
-record Found (o : Option Finished) (f : CoreFinished End) : Type 0 where
-  finished : Finished
-  is : o ≡ Some finished
-  same : core_finished finished ≡ f
+pub record Found (o : Option Finished) (f : CoreFinished End) : Type 0 where
+  pub finished : Finished
+  pub is : o ≡ Some finished
+  pub same : core_finished finished ≡ f
 
-found-by : (o : Option Finished) (f : CoreFinished End) → finish_of o ≡ Some f → Found o f
+pub found-by : (o : Option Finished) (f : CoreFinished End) → finish_of o ≡ Some f → Found o f
 found-by (Some x) f h = record { finished = x; is = refl; same = cc }
 found-by None f h = absurd (cc)
 

@@ -33,7 +33,8 @@ use Rattle.track_board.specs.Others.{extended}
 use Rattle.track_board.proofs.Foundation.{core-legal, legal-known}
 use Rattle.track_board.proofs.Settling.{weight_of}
 use Rattle.serial_run.specs.Rounds.{TakesVerified, SettlesSome, CanLend, slice_entries, RunsSlice, IsUnderway, IsNext, GoesBy, IsAtEnd}
-use Rattle.serial_run.proofs.Releases.{IsQuiet, AreQuiet, quiet-append, quiet-run, release-core, released_core-released}
+use Rattle.serial_run.specs.Quiet.{IsQuiet, AreQuiet}
+use Rattle.serial_run.proofs.Releases.{quiet-append, quiet-run, release-core, released_core-released}
 
 -- ---- what is known of every board
 
@@ -283,7 +284,7 @@ pub record TakenRounds (v w : Posted) (bytes : List Mark) : Type 0 where
   pub none : verified_of w ≡ []
   pub undue : bytes ≡ [] → due_of w ≡ None
 
-released-extends : (v : Posted) (bytes : List Mark) → Extends v (released_with v bytes)
+pub released-extends : (v : Posted) (bytes : List Mark) → Extends v (released_with v bytes)
 released-extends v [] = quietly v v (extends-none v v refl)
 released-extends v (m ∷ ms) = record { more = E.Release (length (m ∷ ms)) ∷ []; now = refl }
 
@@ -292,10 +293,10 @@ unfolding core_run
 one-event v x known after = run-between v (x ∷ []) known after
 
 module _ (v : Posted) (m : Mark) (ms : List Mark) (is : m ∷ ms ≡ verified_of v) (known : IsKnown v) (after : IsKnown (released_with v (m ∷ ms))) where
-  release-is : released_core v.settings (core_of v) ≡ core_of (released_with v (m ∷ ms))
+  pub release-is : released_core v.settings (core_of v) ≡ core_of (released_with v (m ∷ ms))
   release-is = release-core (machine_of v) v.settings (core_of v) (core_of (released_with v (m ∷ ms))) (length (m ∷ ms)) (one-event v (E.Release (length (m ∷ ms))) known after)
 
-  release-released : (core_of (released_with v (m ∷ ms))).released ≡ (core_of v).released ++ (m ∷ ms)
+  pub release-released : (core_of (released_with v (m ∷ ms))).released ≡ (core_of v).released ++ (m ∷ ms)
   release-released =
       ap (λ (c : GuestCore). c.released) (sym release-is) ∙ released_core-released (machine_of v) v.settings (core_of v)
       ∙ ap (λ (xs : List Mark). (core_of v).released ++ xs) (sym is)

@@ -12,15 +12,7 @@ use Rattle.speculation.specs.Events.{gone_live, released_by, released_core, is_e
 use Rattle.speculation_law.proofs.Happens.{Happens, Lends, Returns, Vanishes, Releases, Halts, Does, event-happens}
 use Rattle.speculation_law.proofs.Prefixes.{released-due}
 use Rattle.serial_run.specs.Conducting.{released_total}
-
--- an entry that releases nothing
-abbrev pub IsQuiet : Entry → Type 0
-IsQuiet (Release count) = ⊥
-IsQuiet _ = Unit {0}
-
-abbrev pub AreQuiet : List Entry → Type 0
-AreQuiet [] = Unit {0}
-AreQuiet (x ∷ xs) = IsQuiet x × AreQuiet xs
+use Rattle.serial_run.specs.Quiet.{IsQuiet, AreQuiet}
 
 pub quiet-append : (xs ys : List Entry) → AreQuiet xs → AreQuiet ys → AreQuiet (xs ++ ys)
 quiet-append [] ys h k = k

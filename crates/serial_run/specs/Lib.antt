@@ -1,3 +1,4 @@
 pub mod Conducting
 pub mod Failures
 pub mod Rounds
+pub mod Quiet

@@ -5,7 +5,7 @@ mod conducted;
 mod serial;
 
 pub use conducted::Conducted;
-pub use serial::conduct_serial;
+pub use serial::{answer_to, conduct_serial, take_verified, write_chunks};
 
 #[cfg(test)]
 mod tests;

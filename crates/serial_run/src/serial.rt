@@ -50,7 +50,7 @@ pub fn conduct_serial<O: Sink, N: Sink>(board: &mut Board, out: &mut O, notes: &
 }
 
 /// The answer where the output could not be written.
-fn answer_to(fault: OutputFault) -> Conducted
+pub fn answer_to(fault: OutputFault) -> Conducted
     ensures { result ≡ answer_to fault }
 {
     match fault {
@@ -123,7 +123,7 @@ fn go_round<O: Sink, N: Sink>(
 ///
 /// # Errors
 /// `NoMemory`, after some of the due events.
-fn take_verified(board: &mut Board) -> Result<Chunks, NoMemory>
+pub fn take_verified(board: &mut Board) -> Result<Chunks, NoMemory>
     ensures taken { MatchResult result (TakesVerified board.old board.new) (λ _. SettlesSome board.old board.new) }
     ensures known { IsKnown board.new }
 {
@@ -135,7 +135,7 @@ fn take_verified(board: &mut Board) -> Result<Chunks, NoMemory>
 ///
 /// # Errors
 /// `Failed` where a sink failed. They then have a beginning of the bytes that is shorter.
-fn write_chunks<O: Sink, N: Sink>(chunks: &Chunks, out: &mut O, notes: &mut N) -> Result<(), Failed>
+pub fn write_chunks<O: Sink, N: Sink>(chunks: &Chunks, out: &mut O, notes: &mut N) -> Result<(), Failed>
     ensures { WritesPiece
         (record { out = O.contents out.old; out_faults = O.faults out.old; notes = N.contents notes.old; notes_faults = N.faults notes.old })
         (record { out = O.contents out.new; out_faults = O.faults out.new; notes = N.contents notes.new; notes_faults = N.faults notes.new })

@@ -27,4 +27,6 @@ pub fn law_of_histories(loaded: &Loaded, input: &Bytes, settings: Settings, entr
 /// The entries of a board are a legal history of its settings, its image and its input.
 pub fn entries_are_legal(board: &Board)
     ensures { IsKnown board.now }
-{}
+{
+    let _ = board.over();
+}

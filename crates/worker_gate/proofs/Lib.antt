@@ -1,0 +1,6 @@
+pub mod Going
+pub mod OnActs
+pub mod OnTurns
+pub mod OwnLoans
+pub mod Leading
+pub mod Concluding

@@ -1,0 +1,82 @@
+-- A turn: what the pass had seen, the board that it entered to, and the board that it left.
+use Rattle.std.proofs.Common.{◌≡◌, ◌≢◌, ℕ, suc, true, false, List, [], ◌∷◌, ◌++◌, Result, Ok, Err, refl, sym, ap, ap₂, ◌∙◌, subst, arith}
+use Rattle.std.proofs.lemmas.List.{append_cancel_left}
+use Rattle.speculation.specs.declared.tracks.Name.{Name}
+use Rattle.speculation.specs.declared.history.Entry.{Entry}
+use Rattle.speculation.specs.declared.history.Entry.TheVariants as E
+use Rattle.speculation.specs.Loans.{owner_of, IsForeign}
+use Rattle.board_lock.specs.Entries.{Foreign}
+use Rattle.board_lock.specs.Passes.{ExtendsPass, MayLeave}
+use Rattle.track_board.specs.declared.kept.Program.{Program}
+use Rattle.track_board.specs.Value.{Posted}
+use Rattle.track_board.specs.Owners.{program_of, posted_by}
+use Rattle.track_board.specs.Others.{OthersAct, extended}
+use Rattle.worker_gate.specs.declared.acts.Found.{Found}
+use Rattle.worker_gate.specs.declared.acts.Found.TheVariants as F
+use Rattle.worker_gate.specs.Seats.{BoardPass, seen_of, ActsAlone, Halts}
+use Rattle.worker_gate.specs.Rounds.{FoundIs, EndIs, HaltsEnding, Lost, Ended}
+use Rattle.worker_gate.proofs.Going.{goes-after, halts-after}
+
+foreign-entries : (seat : ℕ) (before rest : List Entry) → Foreign owner_of seat before rest → IsForeign seat before rest
+foreign-entries seat before [] h = tt
+foreign-entries seat before (x ∷ rest) h = (h.0, foreign-entries seat (before ++ (x ∷ [])) rest h.1)
+
+entries-foreign : (seat : ℕ) (before rest : List Entry) → IsForeign seat before rest → Foreign owner_of seat before rest
+entries-foreign seat before [] h = tt
+entries-foreign seat before (x ∷ rest) h = (h.0, entries-foreign seat (before ++ (x ∷ [])) rest h.1)
+
+module _ (p : BoardPass) (v : Posted) (extends : ExtendsPass program_of (λ (b : Posted). b.entries) owner_of p v) where
+  -- others had acted when the pass entered
+  pub turn-others : OthersAct p.seat (seen_of p) v
+  turn-others = record {
+    rest = extends.seen_first.0;
+    is = ap₂ posted_by extends.fixed_part extends.seen_first.1;
+    foreign = foreign-entries p.seat p.seen extends.seen_first.0 extends.seen_first.2;
+  }
+
+  module _ (w : Posted) (alone : ActsAlone p.seat v w) where
+    abbrev next-seat : p.seat ≢ suc p.seat
+    next-seat same = absurd (omega arith)
+
+    abbrev rest : List Entry
+    rest = (alone (suc p.seat) next-seat).rest
+
+    turn-program : program_of w ≡ p.fixed
+    turn-program = ap program_of (alone (suc p.seat) next-seat).is ∙ extends.fixed_part
+
+    turn-entries : w.entries ≡ v.entries ++ rest
+    turn-entries = ap (λ (b : Posted). b.entries) (alone (suc p.seat) next-seat).is
+
+    -- the board may be left
+    pub turn-leaves : MayLeave program_of (λ (b : Posted). b.entries) owner_of (record p { seen = v.entries; in_turn = true }) w
+    turn-leaves = record {
+      fixed_part = turn-program;
+      appends = (
+        rest,
+        turn-entries,
+        λ other differ. (
+          let mine = alone other (λ same. differ (sym same)) in
+          let same : mine.rest ≡ rest = append_cancel_left v.entries mine.rest rest (sym (ap (λ (b : Posted). b.entries) mine.is) ∙ turn-entries) in
+          entries-foreign other v.entries rest (subst (λ (xs : List Entry). IsForeign other v.entries xs) same mine.foreign)),
+      );
+    }
+
+    -- and is what the pass has seen then
+    pub turn-seen : seen_of (record p { seen = w.entries }) ≡ w
+    turn-seen = ap (λ (f : Program). posted_by f w.entries) (sym turn-program)
+
+-- ---- others acted before
+
+pub found-after : (seat : ℕ) (u v w : Posted) (r : Found) → OthersAct seat u v → FoundIs seat v w r → FoundIs seat u w r
+found-after seat u v w (F.Lent loan) a h = (goes-after seat _ u v w a h.0, h.1)
+found-after seat u v w F.Nothing a h = (goes-after seat _ u v w a h.0, h.1)
+found-after seat u v w F.Over a h = (goes-after seat _ u v w a h.0, h.1)
+found-after seat u v w F.NoMemory a h = halts-after seat _ _ u v w a h
+
+ending-after : (seat : ℕ) (n : Name) (u v w : Posted) → OthersAct seat u v → HaltsEnding seat n v w → HaltsEnding seat n u w
+ending-after seat n u v w a (Lost h) = Lost (halts-after seat _ _ u v w a h)
+ending-after seat n u v w a (Ended end ends h) = Ended end ends (halts-after seat _ _ u v w a h)
+
+pub end-after : {T G : Type 0} (seat : ℕ) (n : Name) (u v w : Posted) (r : Result T G) → OthersAct seat u v → EndIs seat n v w r → EndIs seat n u w r
+end-after seat n u v w (Ok t) a h = record { end = h.end; ends = h.ends; goes = goes-after seat _ u v w a h.goes }
+end-after seat n u v w (Err f) a h = ending-after seat n u v w a h
