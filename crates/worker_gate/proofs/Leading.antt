@@ -53,7 +53,7 @@ halts-quiet own last v w quiet calm h =
       now = h.is ∙ ap (λ (x : Posted). posted x last) first.now ∙ ap (λ (zs : List Entry). record v { entries = zs }) (append_assoc v.entries first.more (last ∷ []));
     }
 
-ends-quiet : (n : Name) (x : Entry) → Ends n x → IsQuiet x
+pub ends-quiet : (n : Name) (x : Entry) → Ends n x → IsQuiet x
 ends-quiet n (Back k count) h = tt
 ends-quiet n (Gone k) h = tt
 ends-quiet n (Release count) h = absurd h

@@ -4,3 +4,4 @@ pub mod OnTurns
 pub mod OwnLoans
 pub mod Leading
 pub mod Concluding
+pub mod Working

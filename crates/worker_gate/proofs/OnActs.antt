@@ -29,6 +29,9 @@ use Rattle.worker_gate.proofs.Going.{goes-foreign, goes-one, goes-then, halts-on
 pub alone-then : (seat : ℕ) (u v w : Posted) → ActsAlone seat u v → ActsAlone seat v w → ActsAlone seat u w
 alone-then seat u v w a b other differ = others-then other u v w (a other differ) (b other differ)
 
+pub alone-same : (seat : ℕ) (v w : Posted) → w ≡ v → ActsAlone seat v w
+alone-same seat v w h other differ = others-none other v w h
+
 pub alone-settle : (seat n : ℕ) (v w : Posted) → Settles n v w → ActsAlone seat v w
 alone-settle seat n v w h other differ = others-settle other n v w h
 

@@ -29,9 +29,9 @@ pub(crate) fn take(board: &mut Board, seat: u64) -> Found
     ensures alone { ActsAlone seat board.old board.new }
     ensures known { IsKnown board.new }
 {
-    if settle(board, seat).is_err() {
+    let Ok(()) = settle(board, seat) else {
         return Found::NoMemory;
-    }
+    };
     if board.over() {
         return Found::Over;
     }

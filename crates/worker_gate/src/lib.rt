@@ -9,16 +9,17 @@
 #![tactic(auto)]
 
 mod acts;
-//mod conducting;
+mod conducting;
 mod gate;
 mod kinds;
 mod pauses;
+mod releases;
 pub mod rounds;
-//mod together;
+mod together;
 mod turns;
 mod worker;
 
-//pub use conducting::conduct;
+pub use conducting::conduct;
 pub use gate::{Gate, Open, Point};
 pub use kinds::Round;
 pub use serial_run::Conducted;

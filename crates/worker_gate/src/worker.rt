@@ -10,6 +10,7 @@ use crate::gate::Gate;
 use crate::kinds::Round;
 use crate::pauses::Pauses;
 use crate::rounds::round;
+use crate::together::Help;
 use basic_types::NoMemory;
 use board_lock::{Pass, TurnLock};
 use std::sync::Wait;
@@ -48,4 +49,23 @@ pub fn work<R: Wait + Clock, G: Gate>(
         }
     }
     unreachable!()
+}
+
+/// A worker on a thread of its own.
+pub(crate) struct Worker;
+
+impl Help<TurnLock<Board>, Pass<Board>> for Worker {
+    ghost use Rattle.worker_gate.specs.Seats.{IsReady};
+
+    ghost ready = { IsReady };
+
+    // The conductor learns from the board that it is over, and by whom doesn't matter to it.
+    fn help<R: Wait + Clock, G: Gate>(
+        rt: &R,
+        lock: &TurnLock<Board>,
+        pass: &mut Pass<Board>,
+        gate: &G,
+    ) {
+        let _ = work(rt, lock, pass, gate);
+    }
 }
