@@ -8,9 +8,12 @@ use Rattle.speculation.specs.Loans.{owner_of, IsForeign}
 use Rattle.board_lock.specs.Entries.{Foreign}
 use Rattle.board_lock.specs.Passes.{ExtendsPass, MayLeave}
 use Rattle.track_board.specs.declared.kept.Program.{Program}
-use Rattle.track_board.specs.Value.{Posted}
+use Rattle.track_board.specs.declared.loan.Loan.{Loan}
+use Rattle.track_board.specs.Value.{Posted, IsKnown}
+use Rattle.track_board.specs.Loans.{IsLoanOf}
 use Rattle.track_board.specs.Owners.{program_of, posted_by}
-use Rattle.track_board.specs.Others.{OthersAct, extended}
+use Rattle.track_board.specs.Others.{OthersAct, MayComeHome, extended}
+use Rattle.track_board.proofs.Others.{home-stays, lent-stays}
 use Rattle.worker_gate.specs.declared.acts.Found.{Found}
 use Rattle.worker_gate.specs.declared.acts.Found.TheVariants as F
 use Rattle.worker_gate.specs.Seats.{BoardPass, seen_of, ActsAlone, Halts}
@@ -65,6 +68,31 @@ module _ (p : BoardPass) (v : Posted) (extends : ExtendsPass program_of (λ (b :
     pub turn-seen : seen_of (record p { seen = w.entries }) ≡ w
     turn-seen = ap (λ (f : Program). posted_by f w.entries) (sym turn-program)
 
+-- A turn as its calls tell it: the pass before and while it has the turn, its seat number, the value that it got the turn
+-- with and lends out, and that value when it leaves.
+pub record IsTurn (p e : BoardPass) (seat : ℕ) (x v w : Posted) : Type 0 where
+  pub own : seat ≡ p.seat
+  pub entered : e ≡ record p { seen = x.entries; in_turn = true }
+  pub extends : ExtendsPass program_of (λ (b : Posted). b.entries) owner_of p x
+  pub lent : v ≡ x
+  pub alone : ActsAlone seat v w
+
+module _ (p e q : BoardPass) (seat : ℕ) (x v w : Posted) (turn : IsTurn p e seat x v w) where
+  alone-there : ActsAlone p.seat x w
+  alone-there = subst (λ k. ActsAlone k x w) turn.own (subst (λ (y : Posted). ActsAlone seat y w) turn.lent turn.alone)
+
+  -- the board may be left
+  pub may-leave : MayLeave program_of (λ (b : Posted). b.entries) owner_of e w
+  may-leave = subst (λ (r : BoardPass). MayLeave program_of (λ (b : Posted). b.entries) owner_of r w) (sym turn.entered) (turn-leaves p x turn.extends w alone-there)
+
+  -- others had acted when the pass entered
+  pub others-before : OthersAct p.seat (seen_of p) v
+  others-before = subst (λ (y : Posted). OthersAct p.seat (seen_of p) y) (sym turn.lent) (turn-others p x turn.extends)
+
+  -- what the pass has seen then is the board that it left
+  pub left-seen : q ≡ record e { seen = w.entries; in_turn = false } → seen_of q ≡ w
+  left-seen left = ap seen_of left ∙ ap (λ (r : BoardPass). seen_of (record r { seen = w.entries })) turn.entered ∙ turn-seen p x turn.extends w alone-there
+
 -- ---- others acted before
 
 pub found-after : (seat : ℕ) (u v w : Posted) (r : Found) → OthersAct seat u v → FoundIs seat v w r → FoundIs seat u w r
@@ -80,3 +108,32 @@ ending-after seat n u v w a (Ended end ends h) = Ended end ends (halts-after sea
 pub end-after : {T G : Type 0} (seat : ℕ) (n : Name) (u v w : Posted) (r : Result T G) → OthersAct seat u v → EndIs seat n v w r → EndIs seat n u w r
 end-after seat n u v w (Ok t) a h = record { end = h.end; ends = h.ends; goes = goes-after seat _ u v w a h.goes }
 end-after seat n u v w (Err f) a h = ending-after seat n u v w a h
+
+-- ---- what a turn comes to
+
+module _ (p e q : BoardPass) (seat : ℕ) (x v w : Posted) (turn : IsTurn p e seat x v w) (left : q ≡ record e { seen = w.entries; in_turn = false }) where
+  -- a fact of the board that was left is one of what the pass has seen
+  pub known-left : IsKnown w → IsKnown (seen_of q)
+  known-left known = subst IsKnown (sym (left-seen p e q seat x v w turn left)) known
+
+  pub found-left : (r : Found) → FoundIs seat v w r → FoundIs p.seat (seen_of p) (seen_of q) r
+  found-left r h =
+      found-after p.seat (seen_of p) v (seen_of q) r (others-before p e q seat x v w turn)
+      (subst (λ (y : Posted). FoundIs p.seat v y r) (sym (left-seen p e q seat x v w turn left)) (subst (λ k. FoundIs k v w r) turn.own h))
+
+  pub end-left : {T G : Type 0} (n : Name) (r : Result T G) → EndIs seat n v w r → EndIs p.seat n (seen_of p) (seen_of q) r
+  end-left n r h =
+      end-after p.seat n (seen_of p) v (seen_of q) r (others-before p e q seat x v w turn)
+      (subst (λ (y : Posted). EndIs p.seat n v y r) (sym (left-seen p e q seat x v w turn left)) (subst (λ k. EndIs k n v w r) turn.own h))
+
+-- what may come home, and what is lent, when the pass has the turn
+module _ (p : BoardPass) (seat : ℕ) (x v : Posted) (own : seat ≡ p.seat) (extends : ExtendsPass program_of (λ (b : Posted). b.entries) owner_of p x) (lent : v ≡ x)
+    (known : IsKnown (seen_of p)) (after : IsKnown v) where
+  others-there : OthersAct p.seat (seen_of p) v
+  others-there = subst (λ (y : Posted). OthersAct p.seat (seen_of p) y) (sym lent) (turn-others p x extends)
+
+  pub home-there : (loan : Loan) → MayComeHome (seen_of p) p.seat loan → MayComeHome v seat loan
+  home-there loan h = subst (λ k. MayComeHome v k loan) (sym own) (home-stays (seen_of p) v p.seat loan known after others-there h)
+
+  pub lent-there : (n : Name) → IsLoanOf (seen_of p) p.seat n → IsLoanOf v seat n
+  lent-there n h = subst (λ k. IsLoanOf v k n) (sym own) (lent-stays (seen_of p) v p.seat n known after others-there h)

@@ -59,8 +59,9 @@ pub(crate) fn end<R: Wait + Clock, G: Gate>(
     gate.pass(rt, Point::Enter);
     let seat = pass.seat();
     let mut turn = lock.enter(rt, pass);
-    entries_are_legal(turn.get());
-    let ended = give(turn.get(), seat, loan);
+    let board = turn.get();
+    entries_are_legal(board);
+    let ended = give(board, seat, loan);
     lock.leave(turn, pass);
     ended
 }
@@ -87,8 +88,9 @@ pub(crate) fn end_lost<R: Wait + Clock, G: Gate>(
     gate.pass(rt, Point::Enter);
     let seat = pass.seat();
     let mut turn = lock.enter(rt, pass);
-    entries_are_legal(turn.get());
-    let ended = lose(turn.get(), seat, loan);
+    let board = turn.get();
+    entries_are_legal(board);
+    let ended = lose(board, seat, loan);
     lock.leave(turn, pass);
     ended
 }
