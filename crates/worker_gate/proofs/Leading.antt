@@ -24,7 +24,7 @@ use Rattle.worker_gate.specs.declared.kinds.Round.TheVariants as R
 use Rattle.worker_gate.specs.declared.releases.Verified.{Verified}
 use Rattle.worker_gate.specs.declared.releases.Closed.{Closed}
 use Rattle.worker_gate.specs.Seats.{is_seat, own_entries, own_loans, seat_count, Goes, Halts, ActsAlone}
-use Rattle.worker_gate.specs.Rounds.{Ends, HasWorked, HaltsInRound, Before, Lost, Behind, RoundIs}
+use Rattle.worker_gate.specs.Rounds.{Ends, HasWorked, HaltsInRound, HaltedFirst, HaltedByLoss, HaltedLast, RoundIs}
 use Rattle.worker_gate.specs.Conducting.{Hands, HandsOut, IsClosed, Takes, Closes, SeatsBelow}
 use Rattle.worker_gate.proofs.Going.{goes-foreign}
 use Rattle.worker_gate.proofs.OwnLoans.{goes-loans, loans-append}
@@ -60,9 +60,9 @@ ends-quiet n (Release count) h = absurd h
 ends-quiet n x h = tt
 
 halting-quiet : (v w : Posted) → HaltsInRound 0 v w → ExtendsQuietly v w
-halting-quiet v w (Before h) = halts-quiet [] (Halt 0) v w tt tt h
-halting-quiet v w (Lost n h) = halts-quiet (Lend 0 n ∷ []) (Gone n) v w (tt, tt) tt h
-halting-quiet v w (Behind n end ends h) = halts-quiet (Lend 0 n ∷ (end ∷ [])) (Halt 0) v w (tt, (ends-quiet n end ends, tt)) tt h
+halting-quiet v w (HaltedFirst h) = halts-quiet [] (Halt 0) v w tt tt h
+halting-quiet v w (HaltedByLoss n h) = halts-quiet (Lend 0 n ∷ []) (Gone n) v w (tt, tt) tt h
+halting-quiet v w (HaltedLast n end ends h) = halts-quiet (Lend 0 n ∷ (end ∷ [])) (Halt 0) v w (tt, (ends-quiet n end ends, tt)) tt h
 
 round-quiet : (v w : Posted) (r : Round) → RoundIs 0 v w r → ExtendsQuietly v w
 round-quiet v w R.Worked h = goes-quiet (Lend 0 h.name ∷ (h.end ∷ [])) v w (tt, (ends-quiet h.name h.end h.ends, tt)) h.goes

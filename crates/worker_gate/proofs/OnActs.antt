@@ -21,7 +21,7 @@ use Rattle.track_board.proofs.Others.{others-none, others-then, others-settle, o
 use Rattle.worker_gate.specs.declared.acts.Found.{Found}
 use Rattle.worker_gate.specs.declared.acts.Found.TheVariants as F
 use Rattle.worker_gate.specs.Seats.{HaltsAt, Goes, Halts, ActsAlone}
-use Rattle.worker_gate.specs.Rounds.{Ends, IsSettled, SettledIs, IsIdle, FoundIs, HasEnded, HaltsEnding, Lost, Ended, EndIs}
+use Rattle.worker_gate.specs.Rounds.{Ends, IsSettled, SettledIs, IsIdle, FoundIs, HasEnded, HaltsEnding, HaltedAfterEnd, EndIs}
 use Rattle.worker_gate.proofs.Going.{goes-foreign, goes-one, goes-then, halts-one, halts-then}
 
 -- ---- the seat alone
@@ -147,4 +147,4 @@ module _ (seat : ℕ) (v w : Posted) (n : Name) (known : IsKnown v) (lent : IsLo
 -- and then what is due
 pub end-settled : {T F : Type 0} (seat : ℕ) (n : Name) (u v w : Posted) (r : Result T F) → HasEnded seat n u v → SettledIs seat v w r → EndIs seat n u w r
 end-settled seat n u v w (Ok t) a b = record { end = a.end; ends = a.ends; goes = goes-then seat (a.end ∷ []) [] u v w a.goes b.goes }
-end-settled seat n u v w (Err f) a b = Ended a.end a.ends (halts-then seat (a.end ∷ []) [] (E.Halt seat) u v w a.goes b)
+end-settled seat n u v w (Err f) a b = HaltedAfterEnd a.end a.ends (halts-then seat (a.end ∷ []) [] (E.Halt seat) u v w a.goes b)

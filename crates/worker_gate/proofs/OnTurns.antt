@@ -17,7 +17,7 @@ use Rattle.track_board.proofs.Others.{home-stays, lent-stays}
 use Rattle.worker_gate.specs.declared.acts.Found.{Found}
 use Rattle.worker_gate.specs.declared.acts.Found.TheVariants as F
 use Rattle.worker_gate.specs.Seats.{BoardPass, seen_of, ActsAlone, Halts}
-use Rattle.worker_gate.specs.Rounds.{FoundIs, EndIs, HaltsEnding, Lost, Ended}
+use Rattle.worker_gate.specs.Rounds.{FoundIs, EndIs, HaltsEnding, HaltedByEnd, HaltedAfterEnd}
 use Rattle.worker_gate.proofs.Going.{goes-after, halts-after}
 
 foreign-entries : (seat : ℕ) (before rest : List Entry) → Foreign owner_of seat before rest → IsForeign seat before rest
@@ -102,8 +102,8 @@ found-after seat u v w F.Over a h = (goes-after seat _ u v w a h.0, h.1)
 found-after seat u v w F.NoMemory a h = halts-after seat _ _ u v w a h
 
 ending-after : (seat : ℕ) (n : Name) (u v w : Posted) → OthersAct seat u v → HaltsEnding seat n v w → HaltsEnding seat n u w
-ending-after seat n u v w a (Lost h) = Lost (halts-after seat _ _ u v w a h)
-ending-after seat n u v w a (Ended end ends h) = Ended end ends (halts-after seat _ _ u v w a h)
+ending-after seat n u v w a (HaltedByEnd h) = HaltedByEnd (halts-after seat _ _ u v w a h)
+ending-after seat n u v w a (HaltedAfterEnd end ends h) = HaltedAfterEnd end ends (halts-after seat _ _ u v w a h)
 
 pub end-after : {T G : Type 0} (seat : ℕ) (n : Name) (u v w : Posted) (r : Result T G) → OthersAct seat u v → EndIs seat n v w r → EndIs seat n u w r
 end-after seat n u v w (Ok t) a h = record { end = h.end; ends = h.ends; goes = goes-after seat _ u v w a h.goes }

@@ -12,7 +12,7 @@ use Rattle.track_board.specs.Value.{Posted}
 use Rattle.worker_gate.specs.Seats.{one_of, seat_count, own_loans, is_seat, own_entries, Goes, Halts}
 use Rattle.worker_gate.specs.declared.kinds.Round.{Round}
 use Rattle.worker_gate.specs.declared.kinds.Round.TheVariants as R
-use Rattle.worker_gate.specs.Rounds.{Ends, HasWorked, HaltsInRound, Before, Lost, Behind, RoundIs}
+use Rattle.worker_gate.specs.Rounds.{Ends, HasWorked, HaltsInRound, HaltedFirst, HaltedByLoss, HaltedLast, RoundIs}
 use Rattle.worker_gate.proofs.Going.{own-append, own-one}
 
 -- how many of these entries lend a track, and how many end a loan
@@ -182,9 +182,9 @@ ends-one n (Gone k) h = refl
 ends-one n x h = absurd h
 
 halting-none : (seat : ℕ) (v w : Posted) → own_loans seat v.entries ≡ 0 → HaltsInRound seat v w → own_loans seat w.entries ≡ 0
-halting-none seat v w none (Before h) = (let all = halts-loans seat [] (Halt seat) v w h in omega arith)
-halting-none seat v w none (Lost n h) = (let all = halts-loans seat (Lend seat n ∷ []) (Gone n) v w h in omega arith)
-halting-none seat v w none (Behind n end ends h) =
+halting-none seat v w none (HaltedFirst h) = (let all = halts-loans seat [] (Halt seat) v w h in omega arith)
+halting-none seat v w none (HaltedByLoss n h) = (let all = halts-loans seat (Lend seat n ∷ []) (Gone n) v w h in omega arith)
+halting-none seat v w none (HaltedLast n end ends h) =
     let all = halts-loans seat (Lend seat n ∷ (end ∷ [])) (Halt seat) v w h in
     let one = ends-one n end ends in
     let more = ends-append (end ∷ []) (Halt seat ∷ []) in

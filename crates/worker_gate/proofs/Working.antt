@@ -1,13 +1,14 @@
 -- Rounds of a worker, one after another.
 use Rattle.std.proofs.Common.{◌≡◌, ℕ, true, List, [], ◌∷◌, ◌++◌, refl, sym, ap, ◌∙◌, subst}
+use Rattle.speculation.specs.declared.tracks.Name.{Name}
 use Rattle.speculation.specs.declared.history.Entry.{Entry}
 use Rattle.speculation.specs.declared.history.Entry.TheVariants.{Lend, Gone, Halt}
 use Rattle.speculation.specs.Core.{over}
 use Rattle.track_board.specs.Value.{Posted, core_of}
 use Rattle.track_board.proofs.Others.{others-none}
 use Rattle.serial_run.proofs.Releases.{quiet-append}
-use Rattle.worker_gate.specs.Seats.{BoardPass, seen_of, Goes, Halts}
-use Rattle.worker_gate.specs.Rounds.{HasWorked, HaltsInRound, Before, Lost, Behind, Works, WorksUpToHalt}
+use Rattle.worker_gate.specs.Seats.{BoardPass, seen_of, own_loans, Goes, Halts}
+use Rattle.worker_gate.specs.Rounds.{HasEnded, HaltsEnding, HaltedByEnd, HaltedAfterEnd, HasWorked, HaltsInRound, HaltedFirst, HaltedByLoss, HaltedLast, Works, WorksUpToHalt}
 use Rattle.worker_gate.proofs.Going.{goes-foreign, goes-then, halts-then}
 use Rattle.worker_gate.proofs.Leading.{ends-quiet}
 
@@ -21,6 +22,28 @@ pass-then p q r a b = b ∙ ap (λ (x : BoardPass). record x { seen = r.seen }) 
 
 pub same-seat : (p q : BoardPass) → q ≡ record p { seen = q.seen } → q.seat ≡ p.seat
 same-seat p q a = ap (λ (x : BoardPass). x.seat) a
+
+pub none-later : (p q : BoardPass) → q ≡ record p { seen = q.seen } → own_loans p.seat q.seen ≡ 0 → own_loans q.seat q.seen ≡ 0
+none-later p q a h = subst (λ seat. own_loans seat q.seen ≡ 0) (sym (same-seat p q a)) h
+
+-- ---- a round
+
+-- a track was lent to the seat of p, which has come to q, and its loan ended, or halted the board
+module _ (p q r : BoardPass) (later : q ≡ record p { seen = q.seen }) (n : Name) (lent : Goes p.seat (Lend p.seat n ∷ []) (seen_of p) (seen_of q)) where
+  pub round-worked : HasEnded q.seat n (seen_of q) (seen_of r) → HasWorked p.seat (seen_of p) (seen_of r)
+  round-worked h = record {
+    name = n;
+    end = h.end;
+    ends = h.ends;
+    goes = goes-then p.seat (Lend p.seat n ∷ []) (h.end ∷ []) (seen_of p) (seen_of q) (seen_of r) lent (subst (λ seat. Goes seat (h.end ∷ []) (seen_of q) (seen_of r)) (same-seat p q later) h.goes);
+  }
+
+  ending-halts : HaltsEnding p.seat n (seen_of q) (seen_of r) → HaltsInRound p.seat (seen_of p) (seen_of r)
+  ending-halts (HaltedByEnd h) = HaltedByLoss n (halts-then p.seat (Lend p.seat n ∷ []) [] (Gone n) (seen_of p) (seen_of q) (seen_of r) lent h)
+  ending-halts (HaltedAfterEnd end ends h) = HaltedLast n end ends (halts-then p.seat (Lend p.seat n ∷ []) (end ∷ []) (Halt p.seat) (seen_of p) (seen_of q) (seen_of r) lent h)
+
+  pub round-halted : HaltsEnding q.seat n (seen_of q) (seen_of r) → HaltsInRound p.seat (seen_of p) (seen_of r)
+  round-halted h = ending-halts (subst (λ seat. HaltsEnding seat n (seen_of q) (seen_of r)) (same-seat p q later) h)
 
 -- ---- what the seat did so far
 
@@ -40,9 +63,9 @@ halts-works seat u v w a b = record {
 }
 
 round-halts : (seat : ℕ) (v w : Posted) → HaltsInRound seat v w → WorksUpToHalt seat v w
-round-halts seat v w (Before h) = record { own = []; quiet = tt; last = Halt seat; last_quiet = tt; halts = h }
-round-halts seat v w (Lost n h) = record { own = Lend seat n ∷ []; quiet = (tt, tt); last = Gone n; last_quiet = tt; halts = h }
-round-halts seat v w (Behind n end ends h) = record { own = Lend seat n ∷ (end ∷ []); quiet = (tt, (ends-quiet n end ends, tt)); last = Halt seat; last_quiet = tt; halts = h }
+round-halts seat v w (HaltedFirst h) = record { own = []; quiet = tt; last = Halt seat; last_quiet = tt; halts = h }
+round-halts seat v w (HaltedByLoss n h) = record { own = Lend seat n ∷ []; quiet = (tt, tt); last = Gone n; last_quiet = tt; halts = h }
+round-halts seat v w (HaltedLast n end ends h) = record { own = Lend seat n ∷ (end ∷ []); quiet = (tt, (ends-quiet n end ends, tt)); last = Halt seat; last_quiet = tt; halts = h }
 
 -- rounds from the pass p to q, and then one more to r
 module _ (p q r : BoardPass) (later : q ≡ record p { seen = q.seen }) (so_far : Works p.seat (seen_of p) (seen_of q)) where

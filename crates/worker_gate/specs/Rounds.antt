@@ -55,8 +55,8 @@ pub record HasEnded (seat : ℕ) (n : Name) (v w : Posted) : Type 0 where
 
 -- it ended, and that halted the board, or there was no memory for what was due then
 pub data HaltsEnding (seat : ℕ) (n : Name) (v w : Posted) : Type 0 where
-  Lost : Halts seat [] (E.Gone n) v w → HaltsEnding seat n v w
-  Ended : (end : Entry) → Ends n end → Halts seat (end ∷ []) (E.Halt seat) v w → HaltsEnding seat n v w
+  HaltedByEnd : Halts seat [] (E.Gone n) v w → HaltsEnding seat n v w
+  HaltedAfterEnd : (end : Entry) → Ends n end → Halts seat (end ∷ []) (E.Halt seat) v w → HaltsEnding seat n v w
 
 abbrev pub EndIs : {T F : Type 0} → ℕ → Name → Posted → Posted → Result T F → Type 0
 EndIs seat n v w (Ok _) = HasEnded seat n v w
@@ -73,9 +73,9 @@ pub record HasWorked (seat : ℕ) (v w : Posted) : Type 0 where
 
 -- the seat halted the board: before a loan, by the end of a loan whose track was lost, or behind a loan
 pub data HaltsInRound (seat : ℕ) (v w : Posted) : Type 0 where
-  Before : Halts seat [] (E.Halt seat) v w → HaltsInRound seat v w
-  Lost : (name : Name) → Halts seat (E.Lend seat name ∷ []) (E.Gone name) v w → HaltsInRound seat v w
-  Behind : (name : Name) (end : Entry) → Ends name end → Halts seat (E.Lend seat name ∷ (end ∷ [])) (E.Halt seat) v w → HaltsInRound seat v w
+  HaltedFirst : Halts seat [] (E.Halt seat) v w → HaltsInRound seat v w
+  HaltedByLoss : (name : Name) → Halts seat (E.Lend seat name ∷ []) (E.Gone name) v w → HaltsInRound seat v w
+  HaltedLast : (name : Name) (end : Entry) → Ends name end → Halts seat (E.Lend seat name ∷ (end ∷ [])) (E.Halt seat) v w → HaltsInRound seat v w
 
 abbrev pub RoundIs : ℕ → Posted → Posted → Round → Type 0
 RoundIs seat v w R.Worked = HasWorked seat v w

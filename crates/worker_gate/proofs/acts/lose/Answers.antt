@@ -1,12 +1,12 @@
 use Rattle.std.proofs.Common.{sym, ◌∙◌}
-use Rattle.worker_gate.specs.Rounds.{HasEnded, Lost}
+use Rattle.worker_gate.specs.Rounds.{HasEnded, HaltedByEnd}
 use Rattle.worker_gate.proofs.OnActs.{alone-then, alone-gone, gone-halted, gone-over, gone-dropped, end-settled}
 use Rattle.worker_gate.proofs.acts.lose.Goals as goal
 use Rattle.worker_gate.proofs.acts.lose.Goals.{else-not-was_over-via-then-not-was_over+else-over, else-not-was_over-via-else-not-was_over}
 
 pub returns-then-over-clause-ended : goal.returns-then-over-clause-ended
 returns-then-over-clause-ended c =
-    Lost (gone-halted c.args.seat c.args.board.now c.give_up.new.self c.args.loan.name c.requires.known c.requires.lent c.give_up.ensures.entry
+    HaltedByEnd (gone-halted c.args.seat c.args.board.now c.give_up.new.self c.args.loan.name c.requires.known c.requires.lent c.give_up.ensures.entry
     (sym c.over-was_over.ensures.result ∙ c.if-not-was_over.true) (sym c.over.ensures.result ∙ c.if-over.true))
 
 pub returns-then-over-clause-alone : goal.returns-then-over-clause-alone
