@@ -23,12 +23,13 @@ use Rattle.worker_gate.specs.declared.kinds.Round.{Round}
 use Rattle.worker_gate.specs.declared.kinds.Round.TheVariants as R
 use Rattle.worker_gate.specs.declared.releases.Verified.{Verified}
 use Rattle.worker_gate.specs.declared.releases.Closed.{Closed}
-use Rattle.worker_gate.specs.Seats.{is_seat, own_entries, own_loans, seat_count, Goes, Halts, ActsAlone}
+use Rattle.worker_gate.specs.Seats.{BoardPass, seen_of, is_seat, own_entries, own_loans, seat_count, Goes, Halts, ActsAlone}
 use Rattle.worker_gate.specs.Rounds.{Ends, HasWorked, HaltsInRound, HaltedFirst, HaltedByLoss, HaltedLast, RoundIs}
 use Rattle.worker_gate.specs.Conducting.{Hands, HandsOut, IsClosed, Takes, Closes, SeatsBelow}
 use Rattle.worker_gate.proofs.Going.{goes-foreign}
 use Rattle.worker_gate.proofs.OwnLoans.{goes-loans, loans-append}
 use Rattle.worker_gate.proofs.OnActs.{alone-then, alone-settle, alone-halt}
+use Rattle.worker_gate.proofs.OnTurns.{IsTurn, others-before, left-seen, seats-left}
 
 -- ---- only seat 0 releases
 
@@ -142,6 +143,16 @@ halted-hands_by v w false h known =
 pub hands-halted : (v w : Posted) → w ≡ (if over (core_of v) then v else posted v (Halt 0)) → IsKnown w → Hands [] v w
 hands-halted v w h known = halted-hands_by v w (over (core_of v)) h known
 
+-- there was no memory for all that is due
+pub hands-gave_up : (v u w : Posted) → SettlesSome v u → w ≡ (if over (core_of u) then u else posted u (Halt 0)) → IsKnown w → Hands [] v w
+hands-gave_up v u w some h known =
+    let halted = hands-halted u w h known in
+    hands-then [] [] v u w (settles-hands some.0 v u some.1 (hands-known [] u w halted known)) halted
+
+-- what was handed out is lost
+pub takes-none : {F : Type 0} (bytes : List Mark) (v u w : Posted) (fault : F) → Hands bytes v u → w ≡ (if over (core_of u) then u else posted u (Halt 0)) → IsKnown w → Takes v w (Err fault)
+takes-none bytes v u w fault hands h known = (bytes ++ [], hands-then bytes [] v u w hands (hands-halted u w h known))
+
 -- ---- the seat alone
 
 pub alone-released : (v w : Posted) (bytes : List Mark) → w ≡ released_with v bytes → ActsAlone 0 v w
@@ -191,7 +202,32 @@ hands-out-after u v w (Err f) others h known = (hands-after [] u v w others h.0 
 not-le : (a b : ℕ) → (a ≤ b → ⊥) → b < a
 not-le a b h = omega (arith, h)
 
-below-seats : (most : ℕ) (before xs : List Entry) → ((seat : ℕ) → most ≤ seat → IsForeign seat before xs) → SeatsBelow most xs
+pub below-seats : (most : ℕ) (before xs : List Entry) → ((seat : ℕ) → most ≤ seat → IsForeign seat before xs) → SeatsBelow most xs
 below-seats most before [] h = tt
 below-seats most before (Lend seat n ∷ xs) h = (not-le most seat (λ le. (h seat le).0 refl), below-seats most (before ++ (Lend seat n ∷ [])) xs (λ k le. (h k le).1))
 below-seats most before (x ∷ xs) h = below-seats most (before ++ (x ∷ [])) xs (λ k le. (h k le).1)
+
+-- ---- a turn of the conductor
+
+module _ (p e q : BoardPass) (x v w : Posted) (turn : IsTurn p e 0 x v w) (left : q ≡ record e { seen = w.entries; in_turn = false }) (known : IsKnown w) where
+  others-first : OthersAct 0 (seen_of p) v
+  others-first = subst (λ k. OthersAct k (seen_of p) v) (sym turn.own) (others-before p e q 0 x v w turn)
+
+  now : seen_of q ≡ w
+  now = left-seen p e q 0 x v w turn left
+
+  -- what was released is released, seen from the pass
+  pub turn-releases : {F : Type 0} (r : Result Verified F) → HandsOut v w r → HandsOut (seen_of p) (seen_of q) r
+  turn-releases r h = subst (λ (y : Posted). HandsOut (seen_of p) y r) (sym now) (hands-out-after (seen_of p) v w r others-first h known)
+
+  pub turn-halts : w ≡ (if over (core_of v) then v else posted v (Halt 0)) → Hands [] (seen_of p) (seen_of q)
+  turn-halts h = subst (λ (y : Posted). Hands [] (seen_of p) y) (sym now) (hands-after [] (seen_of p) v w others-first (hands-halted v w h known) known)
+
+  pub turn-over : over (core_of w) ≡ true → over (core_of (seen_of q)) ≡ true
+  turn-over h = subst (λ (y : Posted). over (core_of y) ≡ true) (sym now) h
+
+  pub turn-closes : {F : Type 0} (r : Result Closed F) → 1 ≤ p.stock → Takes v w r → Closes p.stock (seen_of p) (seen_of q) r
+  turn-closes r some h =
+      let below : p.seat < p.stock = (let zero : 0 ≡ p.seat = turn.own in omega arith) in
+      subst (λ (y : Posted). Closes p.stock (seen_of p) y r) (sym now)
+      (takes-closes p.stock (seen_of p) v w r others-first (below-seats p.stock [] w.entries (seats-left p e 0 x v w turn below)) h known)

@@ -1,5 +1,5 @@
 -- A turn: what the pass had seen, the board that it entered to, and the board that it left.
-use Rattle.std.proofs.Common.{◌≡◌, ◌≢◌, ℕ, suc, true, false, List, [], ◌∷◌, ◌++◌, Result, Ok, Err, refl, sym, ap, ap₂, ◌∙◌, subst, arith}
+use Rattle.std.proofs.Common.{◌≡◌, ◌≢◌, ℕ, suc, true, false, List, [], ◌∷◌, ◌++◌, Result, Ok, Err, ◌<◌, ◌≤◌, append_assoc, append-nil, refl, sym, ap, ap₂, ◌∙◌, subst, arith}
 use Rattle.std.proofs.lemmas.List.{append_cancel_left}
 use Rattle.speculation.specs.declared.tracks.Name.{Name}
 use Rattle.speculation.specs.declared.history.Entry.{Entry}
@@ -125,6 +125,18 @@ module _ (p e q : BoardPass) (seat : ℕ) (x v w : Posted) (turn : IsTurn p e se
   end-left n r h =
       end-after p.seat n (seen_of p) v (seen_of q) r (others-before p e q seat x v w turn)
       (subst (λ (y : Posted). EndIs p.seat n v y r) (sym (left-seen p e q seat x v w turn left)) (subst (λ k. EndIs k n v w r) turn.own h))
+
+foreign-append : (seat : ℕ) (before xs ys : List Entry) → IsForeign seat before xs → IsForeign seat (before ++ xs) ys → IsForeign seat before (xs ++ ys)
+foreign-append seat before [] ys h g = subst (λ zs. IsForeign seat zs ys) (append-nil before) g
+foreign-append seat before (x ∷ xs) ys h g =
+    (h.0, foreign-append seat (before ++ (x ∷ [])) xs ys h.1 (subst (λ zs. IsForeign seat zs ys) (sym (append_assoc before (x ∷ []) xs)) g))
+
+-- no entry belongs to a seat that the pass still has to give
+pub seats-left : (p e : BoardPass) (seat : ℕ) (x v w : Posted) → IsTurn p e seat x v w → p.seat < p.stock → (k : ℕ) → p.stock ≤ k → IsForeign k [] w.entries
+seats-left p e seat x v w turn below k le =
+    let mine = alone-there p e e seat x v w turn k (λ same. absurd (omega (arith, same))) in
+    subst (λ (y : Posted). IsForeign k [] y.entries) (sym mine.is)
+    (foreign-append k [] x.entries mine.rest (foreign-entries k [] x.entries (turn.extends.stock_free k le)) mine.foreign)
 
 -- what may come home, and what is lent, when the pass has the turn
 module _ (p : BoardPass) (seat : ℕ) (x v : Posted) (own : seat ≡ p.seat) (extends : ExtendsPass program_of (λ (b : Posted). b.entries) owner_of p x) (lent : v ≡ x)

@@ -75,6 +75,7 @@ fn passes_for(
     requires stock { pass.old.stock ≡ 1 }
     requires seen { pass.old.seen ≡ [] }
     ensures pass { pass.new ≡ record pass.old { stock = pass.new.stock } }
+    ensures some { 1 ≤ pass.new.stock }
     ensures stock { pass.new.stock ≤ workers + 1 }
     ensures ready { All (IsReady lock.now) result.items }
 {
@@ -179,6 +180,7 @@ fn conclude<R: Wait + Clock, O: Sink, N: Sink, G: Gate>(
     requires lock { pass.old.lock ≡ lock.now }
     requires idle { pass.old.in_turn ≡ false }
     requires seat { pass.old.seat ≡ 0 }
+    requires stock { 1 ≤ pass.old.stock }
     ensures pass { pass.new ≡ record pass.old { seen = pass.new.seen } }
     ensures concludes { Concludes pass.old.stock (seen_of pass.old) (seen_of pass.new)
         (sinks_of O.Sink N.Sink out.old notes.old) (sinks_of O.Sink N.Sink out.new notes.new) result }

@@ -1,6 +1,6 @@
 //! Turns of the conductor: what is verified is handed out, and at the end what came of the run.
 
-ghost use Rattle.std.specs.Prelude.{◌≡◌, [], true, false};
+ghost use Rattle.std.specs.Prelude.{◌≡◌, ◌≤◌, [], true, false};
 ghost use Rattle.speculation.specs.Core.{over};
 ghost use Rattle.track_board.specs.Value.{IsKnown, core_of};
 ghost use Rattle.worker_gate.specs.Seats.{ActsAlone, seen_of};
@@ -91,6 +91,7 @@ pub(crate) fn finish<R: Wait + Clock, G: Gate>(
     requires lock { pass.old.lock ≡ lock.now }
     requires idle { pass.old.in_turn ≡ false }
     requires seat { pass.old.seat ≡ 0 }
+    requires stock { 1 ≤ pass.old.stock }
     ensures pass { pass.new ≡ record pass.old { seen = pass.new.seen } }
     ensures closes { Closes pass.old.stock (seen_of pass.old) (seen_of pass.new) result }
     ensures over { over (core_of (seen_of pass.new)) ≡ true }
@@ -153,9 +154,10 @@ fn take_outcome(board: &mut Board) -> Result<Closed, NoMemory>
     ensures known { IsKnown board.new }
 {
     let bytes = board.release()?;
-    if board.finished().is_none() {
-        return Err(NoMemory);
-    }
     let outcome = board.outcome()?;
-    Ok(Closed { bytes, outcome })
+    if outcome.finished.is_some() {
+        Ok(Closed { bytes, outcome })
+    } else {
+        Err(NoMemory)
+    }
 }
