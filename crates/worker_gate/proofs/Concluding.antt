@@ -24,8 +24,11 @@ use Rattle.serial_run.specs.Rounds.{answer_to}
 use Rattle.serial_run.proofs.Releases.{total-run}
 use Rattle.serial_run.proofs.OnRounds.{exact-of}
 use Rattle.serial_run.proofs.OnOutcomes.{released-first, end_of-core_end, Found, found-by}
+use Rattle.worker_gate.specs.declared.kinds.Round.{Round}
 use Rattle.worker_gate.specs.Seats.{BoardPass, seen_of}
+use Rattle.worker_gate.specs.Rounds.{RoundIs}
 use Rattle.worker_gate.specs.Conducting.{Hands, IsClosed, SeatsBelow, BreaksOff, Concludes, IsWhole, Conducts}
+use Rattle.worker_gate.proofs.Leading.{round-released}
 
 -- ---- the sinks got what was released
 
@@ -48,6 +51,11 @@ led-short v w s t u bytes so_far hands short =
 
 pub short-same : (v w : Posted) (s t : Sinks) → StopsShort s t (core_of v).released → Hands [] v w → StopsShort s t (core_of w).released
 short-same v w s t short hands = subst (StopsShort s t) (sym (append-nil (core_of v).released) ∙ sym hands.released) short
+
+-- a round of seat 0 releases nothing
+pub round-led : (q r : BoardPass) (s t : Sinks) (x : Round) → q.seat ≡ 0 → RoundIs q.seat (seen_of q) (seen_of r) x → IsKnown (seen_of r) → GetsAll s t (core_of (seen_of q)).released → GetsAll s t (core_of (seen_of r)).released
+round-led q r s t x zero h known so_far =
+    subst (GetsAll s t) (sym (round-released (seen_of q) (seen_of r) x (subst (λ seat. RoundIs seat (seen_of q) (seen_of r) x) zero h) known)) so_far
 
 -- ---- of the program's output
 

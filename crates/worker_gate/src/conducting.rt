@@ -153,10 +153,10 @@ fn lead<R: Wait + Clock, O: Sink, N: Sink, G: Gate>(
         let Ok(verified) = release(rt, lock, pass, gate) else {
             return Err(OutputFault::NoMemory);
         };
-        if write_chunks(&verified.bytes, out, notes).is_err() {
+        let Ok(()) = write_chunks(&verified.bytes, out, notes) else {
             halt(rt, lock, pass, gate);
             return Err(OutputFault::Write);
-        }
+        };
         if verified.over {
             return Ok(());
         }
