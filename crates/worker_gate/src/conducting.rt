@@ -121,7 +121,9 @@ fn go_together<R: Threads + Wait + Clock + Sync, O: Sink, N: Sink, G: Gate + Syn
         lock,
         passes,
         gate,
-        &mut || lead(rt, lock, pass, out, notes, gate),
+        &mut ||
+            requires { (pass.now.lock ≡ lock.now) × (pass.now.in_turn ≡ false) × (pass.now.seat ≡ 0) × (pass.now.seen ≡ []) }
+        { lead(rt, lock, pass, out, notes, gate) },
     )
 }
 
