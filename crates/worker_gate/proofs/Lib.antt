@@ -5,3 +5,4 @@ pub mod OwnLoans
 pub mod Leading
 pub mod Concluding
 pub mod Working
+pub mod Sending
