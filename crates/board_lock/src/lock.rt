@@ -1,5 +1,5 @@
 //! The lock, and the calls of its passes.
-ghost use Rattle.std.specs.Prelude.{◌≡◌, ◌≢◌, ◌+◌, ◌-◌, ◌^◌, ◌<◌, ℕ, [], ◌∷◌, false, true, Ok, IfOk, IfErr, IsOk};
+ghost use Rattle.std.specs.Prelude.{◌≡◌, ◌≢◌, ◌+◌, ◌-◌, ◌^◌, ◌<◌, ℕ, [], ◌∷◌, false, true, IsTrue, Ok, IfOk, IfErr, IsOk};
 ghost use Rattle.board_lock.specs.Entries.{Foreign};
 ghost use Rattle.board_lock.specs.Passes.{Held, ExtendsPass, MayLeave, first_pass, giver_of, given_by};
 
@@ -90,7 +90,7 @@ impl<T: Kept> TurnLock<T> {
     /// part was kept. The pass has then seen all entries.
     pub fn leave(&self, turn: Turn<T>, pass: &mut Pass<T>)
         requires lock { pass.old.lock ≡ self.now }
-        requires turn { pass.old.in_turn ≡ true }
+        requires turn { IsTrue pass.old.in_turn }
         requires value { MayLeave T.fixed T.entries T.belongs pass.old turn }
         ensures { pass.new ≡ record pass.old { seen = T.entries turn; in_turn = false } }
     {

@@ -1,7 +1,9 @@
 //! The address space of a guest.
 
+use guest_model::PAGE_SIZE;
+
 /// How many bytes a page has.
-pub const PAGE: u64 = 4096;
+pub const PAGE: u64 = PAGE_SIZE as u64;
 
 /// The first address of the stack.
 pub const STACK_BASE: u64 = 0x7FF0_0000;

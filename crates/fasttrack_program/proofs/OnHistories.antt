@@ -3,8 +3,7 @@ use Rattle.std.proofs.Common.{◌≡◌, ℕ, ◌≤◌, Bool, true, false, List
 use Rattle.std.specs.Prelude.{nat_lt, if◌then◌else◌}
 use Rattle.speculation.specs.declared.history.Entry.{Entry}
 use Rattle.speculation.specs.Serial.{IsSerial}
-use Rattle.speculation_law.specs.Serial.{SerialHistory}
-use Rattle.speculation_law.proofs.SerialEnds.{serial-whole}
+use Rattle.speculation_law.proofs.SerialEnds.{serial-exists}
 use Rattle.guest_model.specs.Image.{Image, image, start_of}
 use Rattle.guest_model.specs.ImageFault.{Fault}
 use Rattle.guest_model.specs.Rv32.{rv32}
@@ -28,9 +27,7 @@ use Rattle.fasttrack_program.proofs.OnImages.{image-guest}
 
 -- the serial history of a guest
 pub history_of_run : (input : List ℕ) (i : Image) (o : Options) → 1 ≤ o.tracks → IsGuestState input (start_of i) → (entries : List Entry) × IsSerial (rv32 input) (settings_of o) (start_of i) entries
-history_of_run input i o some guest =
-    let all : SerialHistory (rv32 input) (settings_of o) (start_of i) = serial-whole (rv32 input) (settings_of o) (start_of i) (exact-rv32 input (start_of i) guest) some in
-    (all.entries, all.serial)
+history_of_run input i o some guest = serial-exists (rv32 input) (settings_of o) (start_of i) (exact-rv32 input (start_of i) guest)
 
 history_of_task : (task : Task) (input : List ℕ) (i : Image) (o : Options) → 1 ≤ o.tracks → IsGuestState input (start_of i) → (entries : List Entry) × HasHistory task i input o entries
 history_of_task Alone input i o some guest = ([], refl)

@@ -4,7 +4,8 @@ use Rattle.std.specs.Prelude.{All}
 use Rattle.std.specs.Io.KnownBytes.{Appends}
 use Rattle.speculation.specs.Run.{Mark, marked, stream_bytes}
 use Rattle.speculation.specs.Record.{output_of}
-use Rattle.speculation.specs.Ledger.{ledger, originals}
+use Rattle.speculation.specs.Ledger.{Row as LedgerRow, ledger, originals}
+use Rattle.speculation.specs.Verdicts.{Verdict as CoreVerdict, Kept as CoreKept, Differs as CoreDiffers, Stopped as CoreStopped, Late as CoreLate}
 use Rattle.speculation_law.specs.Totals.{Totalled}
 use Rattle.speculation_law.proofs.Totals.{totalled}
 use Rattle.host_io.specs.Faults.{Rose}
@@ -12,6 +13,7 @@ use Rattle.elf32_loader.specs.LoadedImage.{image_of_loaded}
 use Rattle.elf32_loader.specs.declared.loaded.Loaded.{Loaded}
 use Rattle.guest_model.specs.Image.{Image, program_alone, start_of}
 use Rattle.guest_model.specs.Rv32.{rv32}
+use Rattle.guest_model.specs.declared.difference.Difference.{Difference}
 use Rattle.guest_model.specs.declared.end.End.{End}
 use Rattle.guest_model.specs.declared.end.End.TheVariants.{Exit, Trap, Spent}
 use Rattle.region_ledger.specs.Ledger.{core_verdict, ledger_row, ledger_rows, core_end, totals_of, SavesAtMostAll}
@@ -47,9 +49,22 @@ told_verdict-back Late = refl
 told_row-back : (r : Row) → told_row (ledger_row r) ≡ r
 told_row-back r = ap (λ v. record r { verdict = v }) (told_verdict-back r.verdict)
 
-told_rows-back : (rows : List Row) → map told_row (ledger_rows rows) ≡ rows
+pub told_rows-back : (rows : List Row) → map told_row (ledger_rows rows) ≡ rows
 told_rows-back [] = refl
 told_rows-back (r ∷ rs) = ap (λ x. x ∷ map told_row (ledger_rows rs)) (told_row-back r) ∙ ap (λ xs. r ∷ xs) (told_rows-back rs)
+
+core_verdict-back : (v : CoreVerdict Difference) → core_verdict (told_verdict v) ≡ v
+core_verdict-back CoreKept = refl
+core_verdict-back (CoreDiffers d) = refl
+core_verdict-back CoreStopped = refl
+core_verdict-back CoreLate = refl
+
+ledger_row-back : (r : LedgerRow Difference) → ledger_row (told_row r) ≡ r
+ledger_row-back r = ap (λ v. record r { judged = record r.judged { verdict = v } }) (core_verdict-back r.judged.verdict)
+
+pub ledger_rows-back : (rows : List (LedgerRow Difference)) → ledger_rows (map told_row rows) ≡ rows
+ledger_rows-back [] = refl
+ledger_rows-back (r ∷ rs) = ap (λ x. x ∷ ledger_rows (map told_row rs)) (ledger_row-back r) ∙ ap (λ xs. r ∷ xs) (ledger_rows-back rs)
 
 end_of-back : (e : End) → end_of (core_end e) ≡ e
 end_of-back (Exit code) = refl

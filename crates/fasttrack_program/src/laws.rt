@@ -1,17 +1,21 @@
 //! Laws about definitions, each the contract of a function that does nothing.
 
-ghost use Rattle.std.specs.Prelude.{◌≡◌, ◌≤◌, ◌⊎◌, ℕ, false, if◌then◌else◌, List, [], length, Ok, Option, Some};
+ghost use Rattle.std.specs.Prelude.{◌≡◌, ◌≤◌, ◌⊎◌, ℕ, false, if◌then◌else◌, List, [], length, map, Ok, Option, Some};
 ghost use Rattle.host_io.specs.Faults.{Rose};
 ghost use Rattle.guest_model.specs.Image.{Image, image};
+ghost use Rattle.guest_model.specs.declared.difference.Difference.{Difference};
 ghost use Rattle.program_words.specs.CommandLine.{Request};
 ghost use Rattle.program_words.specs.declared.request.Task.TheVariants.{Trial, Bench};
 ghost use Rattle.guest_streams.specs.GuestStreams.{Sinks};
 ghost use Rattle.fasttrack_program.specs.Completeness.{IsComplete, IsTaskDone};
 ghost use Rattle.fasttrack_program.specs.Plan.{Runs, bench_image, image_limit, input_limit, options_of, plan};
+ghost use Rattle.region_ledger.specs.Ledger.{ledger_rows};
+ghost use Rattle.region_ledger.specs.declared.row.Row.{Row};
+ghost use Rattle.speculation.specs.Ledger.{Row as LedgerRow};
 ghost use Rattle.speculation.specs.declared.history.Entry.{Entry};
 ghost use Rattle.fasttrack_program.specs.declared.answer.Answer.{Answer};
 ghost use Rattle.fasttrack_program.specs.declared.options.Options.{Options};
-ghost use Rattle.fasttrack_program.specs.Reports.{program_report, bench_report};
+ghost use Rattle.fasttrack_program.specs.Reports.{program_report, bench_report, told_row};
 ghost use Rattle.fasttrack_program.specs.TextOnSink.{StoppedInText};
 ghost use Rattle.fasttrack_program.specs.TopCall.{FailsIn, is_bench};
 
@@ -48,4 +52,11 @@ pub fn good_calls_are_done()
 /// The image of the bench of every number has no fault. So no bench is refused for its image.
 pub fn bench_images_load()
     ensures { (number : ℕ) → (i : Image) × (bench_image number ≡ Ok i) }
+{}
+
+/// The rows of a ledger and the rows that tell it are as good as each other: there and back is the identity. So the totals
+/// of the rows that are told are those of the ledger.
+pub fn rows_tell_the_ledger()
+    ensures ledger { (rows : List (LedgerRow Difference)) → ledger_rows (map told_row rows) ≡ rows }
+    ensures told { (rows : List Row) → map told_row (ledger_rows rows) ≡ rows }
 {}

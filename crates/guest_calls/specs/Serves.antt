@@ -4,7 +4,7 @@ use Rattle.speculation.specs.Machine.{Next, Ends}
 use Rattle.guest_model.specs.ByteMap.{ByteMap, mapped, bytes_from}
 use Rattle.guest_model.specs.Registers.{RegFile, next, with_pc, with_result}
 use Rattle.guest_model.specs.MachineState.{MachineState}
-use Rattle.guest_model.specs.Service.{Outcome, answer}
+use Rattle.guest_model.specs.Service.{Outcome, answer, cut}
 use Rattle.guest_model.specs.declared.state.Heap.{Heap}
 use Rattle.guest_model.specs.declared.end.End.TheVariants as E
 use Rattle.guest_calls.specs.declared.served.Served.{Served}
@@ -13,6 +13,13 @@ use Rattle.guest_calls.specs.declared.served.Served.TheVariants.{Answer, Wrote, 
 -- the state with the parts that a service sees, and with registers, which it doesn't
 abbrev pub state_of : ByteMap → ℕ → Heap → RegFile → MachineState
 state_of memory place heap regs = record { regs = regs; memory = memory; place = place; heap = heap }
+
+-- a read of the input into a range that is mapped and not empty
+pub record StoresInput (memory : ByteMap) (number descriptor at count : ℕ) : Type 0 where
+  pub read : number ≡ 63
+  pub input : descriptor ≡ 0
+  pub some : 0 < cut count
+  pub range : IsTrue (mapped memory at (cut count))
 
 -- The state `new` has the registers of `old`: they are the caller's to set.
 abbrev pub Serves : Bool → Bool → Outcome → MachineState → MachineState → Served → Type 0

@@ -4,7 +4,7 @@ ghost use Rattle.std.specs.Prelude.{◌≡◌, ◌≢◌, ℕ, ◌≤◌, Bool, 
 ghost use Rattle.guest_model.specs.ByteMap.{ByteMap, Keeps};
 ghost use Rattle.guest_model.specs.Registers.{RegFile};
 ghost use Rattle.guest_model.specs.Service.{service_of, read_service, write_service, brk_service, answer};
-ghost use Rattle.guest_calls.specs.Serves.{Serves, state_of};
+ghost use Rattle.guest_calls.specs.Serves.{Serves, StoresInput, state_of};
 
 use crate::served::Served;
 use guest_model::{Heap, Memory, StoreFault};
@@ -35,6 +35,7 @@ fn read<M: Memory>(
         let old = state_of (M.bytes memory.old) place.old heap f in
         let new = state_of (M.bytes memory.new) place.new heap f in
         Serves M.REFUSES fast (read_service input.now old descriptor at count) old new result }
+    ensures no_memory { result ≡ Served.NoMemory → StoresInput (M.bytes memory.old) 63 descriptor at count }
     ensures place { place.new ≤ length input.now }
     ensures kept { Keeps (M.written memory.old) (M.bytes memory.old) (M.written memory.new) (M.bytes memory.new) }
 {
@@ -99,7 +100,7 @@ fn move_break(at: u32, heap: &mut Heap) -> u32
 /// say nothing about Linux.
 ///
 /// `input` is the whole input of the guest and `place` the number of its bytes that were read. NoMemory comes only
-/// where a read could not be stored.
+/// at a read of the input into a range that is mapped and not empty.
 #[inline]
 pub fn serve<M: Memory>(
     number: u32,
@@ -116,7 +117,7 @@ pub fn serve<M: Memory>(
         let old = state_of (M.bytes memory.old) place.old heap.old f in
         let new = state_of (M.bytes memory.new) place.new heap.new f in
         Serves M.REFUSES fast (service_of fast input.now old number a0 a1 a2) old new result }
-    ensures no_memory { result ≡ Served.NoMemory → number ≡ 63 }
+    ensures no_memory { result ≡ Served.NoMemory → StoresInput (M.bytes memory.old) number a0 a1 a2 }
     ensures place { place.new ≤ length input.now }
     ensures kept { Keeps (M.written memory.old) (M.bytes memory.old) (M.written memory.new) (M.bytes memory.new) }
 {

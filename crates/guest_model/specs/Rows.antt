@@ -32,6 +32,7 @@ pub record ValueRows : Type 0 where
   pub rem_by_zero : op_value R.Rem 7 0 ≡ 7
   pub div_overflow : op_value R.Div 0x80000000 0xFFFFFFFF ≡ 0x80000000
   pub rem_overflow : op_value R.Rem 0x80000000 0xFFFFFFFF ≡ 0
+  pub div_towards_zero : op_value R.Div 0xFFFFFFF9 2 ≡ 0xFFFFFFFD
   pub mulh : op_value R.Mulh 0xFFFFFFFF 0xFFFFFFFF ≡ 0
   pub mulhsu : op_value R.Mulhsu 0xFFFFFFFF 0xFFFFFFFF ≡ 0xFFFFFFFF
   pub mulhu : op_value R.Mulhu 0xFFFFFFFF 0xFFFFFFFF ≡ 0xFFFFFFFE

@@ -9,6 +9,7 @@ mod flat;
 mod instr;
 pub mod laws;
 mod memory;
+mod page;
 mod registers;
 mod state;
 
@@ -19,5 +20,6 @@ pub use end::{End, Trap};
 pub use flat::FlatMemory;
 pub use instr::{Cond, ImmOp, Instr, LoadWidth, RegOp, StoreWidth, UpperOp};
 pub use memory::{Memory, StoreFault};
-pub use registers::Regs;
+pub use page::PAGE_SIZE;
+pub use registers::{A0, A1, A2, A7, Regs};
 pub use state::{Heap, State};

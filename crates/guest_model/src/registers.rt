@@ -2,6 +2,18 @@
 
 use std::marker::Model;
 
+/// a0: the first argument of a service, and its answer.
+pub const A0: u8 = 10;
+
+/// a1: the second argument of a service.
+pub const A1: u8 = 11;
+
+/// a2: the third argument of a service.
+pub const A2: u8 = 12;
+
+/// a7: the number of a service.
+pub const A7: u8 = 17;
+
 /// The registers of one hart. x0 is always 0.
 #[derive(Debug, Clone, Copy, PartialEq, Eq)]
 pub struct Regs {

@@ -4,6 +4,7 @@ ghost use Rattle.paged_image.specs.Image.{content, written_of};
 ghost use Rattle.page_compare.specs.Comparison.{SameShape, AgreeOutside, SamePage, DiffersFirst, in_either, IsNextPage, PassesPage};
 
 use basic_types::Steps;
+use guest_model::PAGE_SIZE;
 use paged_image::PagedImage;
 
 #[cfg(test)]
@@ -80,7 +81,7 @@ fn page_difference<L>(
         return None;
     };
     let k = first_mismatch(x, y)?;
-    Some(page * 4096 + k as u32)
+    Some(page * PAGE_SIZE + k as u32)
 }
 
 /// The first index at which the two differ.

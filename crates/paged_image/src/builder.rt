@@ -1,6 +1,6 @@
 //! The pages of an image that is being made.
 
-ghost use Rattle.std.specs.Prelude.{◌≡◌, ℕ, ◌+◌, ◌*◌, ◌/◌, ◌<◌, ◌≤◌, [], Some, length, slice_get, IfOk, OnOk};
+ghost use Rattle.std.specs.Prelude.{◌≡◌, ℕ, ◌+◌, ◌*◌, ◌/◌, ◌^◌, ◌<◌, ◌≤◌, [], Some, length, slice_get, IfOk, OnOk};
 ghost use Rattle.guest_model.specs.ByteMap.{write};
 ghost use Rattle.guest_model.specs.AreaMap.{IsPageAligned};
 ghost use Rattle.paged_image.specs.Owner.{page_bytes};
@@ -10,7 +10,7 @@ use crate::entry::Entry;
 use crate::owner::{Owner, ZEROS};
 use crate::page::{PAGE_BYTES, Page};
 use basic_types::NoMemory;
-use guest_model::Area;
+use guest_model::{Area, PAGE_SIZE};
 use std::alloc::Global;
 
 /// An index and entries, to which pages are added from the lowest on.
@@ -19,7 +19,7 @@ pub struct Builder {
     pub alloc: Global,
     pub index: Vec<u32>,
     pub entries: Vec<Entry>,
-    pub ghost table: { length index.items ≤ 1048576 },
+    pub ghost table: { length index.items ≤ 2 ^ 20 },
     pub ghost finds: { Finds index.items entries.items },
     pub ghost places: { (p place : ℕ) → slice_get index.items p ≡ Some place → length entries.items ≤ place → place ≡ 4294967295 },
 }
@@ -29,7 +29,7 @@ impl Builder {
 
     /// No pages yet, and an index for those whose numbers are below `end`.
     pub fn new(alloc: Global, end: usize) -> Result<Builder, NoMemory>
-        requires { end ≤ 1048576 }
+        requires { end ≤ 2 ^ 20 }
         ensures { IfOk result (λ b. (b.entries.items ≡ []) × (length b.index.items ≡ end)) }
     {
         let index = empty_index(alloc, end)?;
@@ -66,7 +66,7 @@ impl Builder {
         ensures index { length self.new.index.items ≡ length self.old.index.items }
     {
         let bytes = area.bytes.as_slice();
-        let first = area.base / 4096;
+        let first = area.base / PAGE_SIZE;
         for k in 0..bytes.len() / PAGE_BYTES {
             self.push_page(
                 first + k as u32,

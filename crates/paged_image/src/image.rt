@@ -1,4 +1,4 @@
-ghost use Rattle.std.specs.Prelude.{◌≡◌, ◌+◌, ◌*◌, ◌≤◌, length, All};
+ghost use Rattle.std.specs.Prelude.{◌≡◌, ◌+◌, ◌*◌, ◌^◌, ◌≤◌, length, All};
 ghost use Rattle.guest_model.specs.AreaMap.{IsLayout};
 ghost use Rattle.paged_image.specs.Pages.{Finds, OwnIsWritten};
 
@@ -32,13 +32,13 @@ pub struct PagedImage {
     index: Arc<Vec<u32>>,
     entries: Vec<Entry>,
     written: WriteSet,
-    ghost table: { length index.value.items ≤ 1048576 },
+    ghost table: { length index.value.items ≤ 2 ^ 20 },
     ghost finds: { Finds index.value.items entries.items },
     ghost own_written: { OwnIsWritten entries.items written },
 }
 
 impl PagedImage {
-    ghost use Rattle.std.specs.Prelude.{ℕ, true, [], IfOk};
+    ghost use Rattle.std.specs.Prelude.{ℕ, [], IsTrue, IfOk};
     ghost use Rattle.guest_model.specs.AreaMap.{areas_bytes};
     ghost use Rattle.paged_image.specs.Image.{content, written_of, owned_of, owns_page};
     ghost use Rattle.paged_image.specs.WriteSet.{has};
@@ -76,7 +76,7 @@ impl PagedImage {
     #[tactic(auto, unfolding(crate::specs::Image::written_of))]
     pub fn written(&self) -> &WriteSet
         ensures pages { result.now ≡ written_of self.now }
-        ensures own { (page : ℕ) → owns_page self.now page ≡ true → has (written_of self.now) page ≡ true }
+        ensures own { (page : ℕ) → IsTrue (owns_page self.now page) → IsTrue (has (written_of self.now) page) }
     {
         &self.written
     }
@@ -96,7 +96,7 @@ impl PagedImage {
 /// The number of the page behind the last area, 0 where there is none.
 fn end_page(areas: &[Area]) -> usize
     requires { IsLayout areas.now }
-    ensures space { result ≤ 1048576 }
+    ensures space { result ≤ 2 ^ 20 }
     ensures behind { All (λ x. x.base + length x.bytes ≤ result * 4096) areas.now }
 {
     match areas.last() {

@@ -1,14 +1,14 @@
-ghost use Rattle.std.specs.Prelude.{◌≡◌, ◌+◌, ◌≤◌, true, false, length, slice_range, MatchBool, OnOk, OnErr, IfOk, IfSome, IfNone};
+ghost use Rattle.std.specs.Prelude.{◌≡◌, ◌+◌, ◌≤◌, false, length, slice_range, IsTrue, MatchBool, OnOk, OnErr, IfOk, IfSome, IfNone};
 ghost use Rattle.paged_image.specs.Owner.{page_bytes, is_own, overwritten};
 
-use crate::page::Page;
+use crate::page::{PAGE_BYTES, Page};
 use basic_types::NoMemory;
 use core::mem;
 use std::alloc::Global;
 use std::sync::Arc;
 
 /// The bytes of a blank page.
-pub static ZEROS: [u8; 4096] = [0; 4096];
+pub static ZEROS: [u8; PAGE_BYTES] = [0; PAGE_BYTES];
 
 /// Who may write a page: the one image that owns it, or none of the images that share it.
 #[derive(Drop)]
@@ -21,7 +21,7 @@ pub enum Owner {
 
 impl Owner {
     #[inline]
-    pub fn bytes(&self) -> &[u8; 4096]
+    pub fn bytes(&self) -> &[u8; PAGE_BYTES]
         ensures { result.now ≡ page_bytes self.now }
     {
         match self {
@@ -75,7 +75,7 @@ impl Owner {
     #[inline(never)]
     pub fn make_own(&mut self, alloc: Global) -> Result<(), NoMemory>
         ensures bytes { page_bytes self.new ≡ page_bytes self.old }
-        ensures ok { OnOk result (is_own self.new ≡ true) }
+        ensures ok { OnOk result (IsTrue (is_own self.new)) }
         ensures err { OnErr result (self.new ≡ self.old) }
     {
         let own = Box::new(
@@ -95,7 +95,7 @@ impl Owner {
     pub fn share(&mut self, alloc: Global) -> Result<Owner, NoMemory>
         ensures bytes { page_bytes self.new ≡ page_bytes self.old }
         ensures ok { IfOk result (λ other. (is_own self.new ≡ false) × (is_own other ≡ false) × (page_bytes other ≡ page_bytes self.old)) }
-        ensures err { OnErr result (is_own self.new ≡ true → is_own self.old ≡ true) }
+        ensures err { OnErr result (IsTrue (is_own self.new) → IsTrue (is_own self.old)) }
     {
         match mem::replace_with(
             self,
@@ -111,7 +111,7 @@ impl Owner {
     fn into_shared(self, alloc: Global) -> (Owner, Option<Owner>)
         ensures bytes { page_bytes result.0 ≡ page_bytes self }
         ensures other { IfSome result.1 (λ other. (is_own result.0 ≡ false) × (is_own other ≡ false) × (page_bytes other ≡ page_bytes self)) }
-        ensures none { IfNone result.1 (is_own result.0 ≡ true → is_own self ≡ true) }
+        ensures none { IfNone result.1 (IsTrue (is_own result.0) → IsTrue (is_own self)) }
     {
         match self {
             Owner::Own(page) => match Arc::new(alloc, page) {

@@ -1,12 +1,14 @@
 ghost use Rattle.std.specs.Prelude.{◌≡◌, ◌+◌, ◌≤◌, ◌++◌, length, take, drop};
 
-/// The bytes of one page.
-pub const PAGE_BYTES: usize = 4096;
+use guest_model::PAGE_SIZE;
+
+/// How many bytes a page has, as a length.
+pub const PAGE_BYTES: usize = PAGE_SIZE as usize;
 
 /// One page of guest memory. Its first address is a multiple of 4,096.
 #[derive(Clone, Copy)]
 pub struct Page {
-    pub bytes: [u8; 4096],
+    pub bytes: [u8; PAGE_BYTES],
     ghost whole: { length bytes ≡ 4096 },
 }
 
@@ -16,7 +18,7 @@ impl Page {
         requires { length from.now ≡ 4096 }
         ensures { result.bytes ≡ from.now }
     {
-        let mut bytes = [0; 4096];
+        let mut bytes = [0; PAGE_BYTES];
         bytes.copy_from_slice(from);
         Page { bytes }
     }

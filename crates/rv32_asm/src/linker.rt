@@ -1,6 +1,6 @@
 //! The end of assembling: labels become addresses and offsets, and the image is written.
 
-ghost use Rattle.std.specs.Prelude.{◌≡◌, ◌+◌, ◌*◌, ◌<◌, ◌≤◌, true, false, ◌++◌, length, None, IfSome, IfNone, IfOk, IsOkAnd, OnOk};
+ghost use Rattle.std.specs.Prelude.{◌≡◌, ◌+◌, ◌*◌, ◌<◌, ◌≤◌, false, ◌++◌, length, None, IsTrue, IfSome, IfNone, IfOk, IsOkAnd, OnOk};
 ghost use Rattle.guest_model.specs.Image.{image};
 ghost use Rattle.guest_model.specs.ImageFault.{Entry};
 ghost use Rattle.rv32_asm.specs.Assembly.{size};
@@ -78,7 +78,7 @@ impl Assembler {
         requires { index < length self.now.items }
         ensures found { IfSome result (λ i. (is_far self.now index ≡ false) × (i ≡ instr_of self.now index)) }
         ensures range { IfSome result IsInRange }
-        ensures far { IfNone result (is_far self.now index ≡ true) }
+        ensures far { IfNone result (IsTrue (is_far self.now index)) }
     {
         match self.items[index] {
             Item::Given(instr) => Some(instr),

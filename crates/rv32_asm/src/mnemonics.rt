@@ -7,6 +7,7 @@ ghost use Rattle.rv32_asm.specs.Generated.{addi};
 
 use crate::constant::upper_part;
 use guest_model::{Cond, ImmOp, Instr, UpperOp};
+pub use guest_model::{A0, A1, A2, A7};
 
 pub const ZERO: u8 = 0;
 
@@ -15,14 +16,6 @@ pub const T0: u8 = 5;
 pub const S0: u8 = 8;
 
 pub const S1: u8 = 9;
-
-pub const A0: u8 = 10;
-
-pub const A1: u8 = 11;
-
-pub const A2: u8 = 12;
-
-pub const A7: u8 = 17;
 
 /// LUI, with the upper part of a number.
 pub fn lui(rd: u8, value: u32) -> Instr

@@ -1,7 +1,7 @@
 //! The laws of histories at the guest machine, each the contract of a function that does nothing. Where the verdict on two
 //! states matters, the program starts in a guest state, as every program of an image does.
 
-ghost use Rattle.std.specs.Prelude.{◌≡◌, ◌<◌, ℕ, List, ◌++◌, Some, None, true, false};
+ghost use Rattle.std.specs.Prelude.{◌≡◌, ◌<◌, ℕ, List, ◌++◌, Some, None, false, IsTrue};
 ghost use Rattle.speculation.specs.declared.tracks.Name.{Name};
 ghost use Rattle.speculation.specs.declared.tracks.OpenLoan.{OpenLoan};
 ghost use Rattle.speculation.specs.declared.history.Settings.{Settings};
@@ -23,7 +23,7 @@ ghost use Rattle.speculation_law.specs.Sees.{Sees};
 ghost use Rattle.speculation_law.specs.Naming.{Sound};
 ghost use Rattle.speculation_law.specs.Totals.{Totalled};
 ghost use Rattle.speculation_law.specs.Fates.{TrackStays};
-ghost use Rattle.speculation_law.specs.Serial.{SerialHistory, IsAllowed, IsSerialSoFar};
+ghost use Rattle.speculation_law.specs.Serial.{HasFinished, IsAllowed, IsSerialSoFar};
 
 /// Of every legal history, what came out and what may come out is a prefix of what the program alone writes within the
 /// budget, and the rows are a prefix of its ledger. Where the history has a finish, end and count are the program's own,
@@ -78,9 +78,15 @@ pub fn serial_steps_are_allowed()
         IsGuestState input start → IsHistory (rv32 input) b start entries c → serial_next (rv32 input) b c ≡ Some xs → IsAllowed (rv32 input) b c xs }
 {}
 
-/// The serial history ends, where at least one region may be open, and then it has a finish.
+/// There is one serial history and no other. Where at least one region may be open, it has a finish, and nothing that is
+/// verified is left.
 pub fn serial_history_ends()
-    ensures { (input : List ℕ) (b : Settings) (start : MachineState) → IsGuestState input start → 0 < b.tracks → SerialHistory (rv32 input) b start }
+    ensures exists { (input : List ℕ) (b : Settings) (start : MachineState) → IsGuestState input start →
+        (entries : List Entry) × IsSerial (rv32 input) b start entries }
+    ensures only { (input : List ℕ) (b : Settings) (start : MachineState) (entries others : List Entry) → IsGuestState input start →
+        IsSerial (rv32 input) b start entries → IsSerial (rv32 input) b start others → entries ≡ others }
+    ensures finished { (input : List ℕ) (b : Settings) (start : MachineState) (entries : List Entry) (h : IsSerial (rv32 input) b start entries) →
+        IsGuestState input start → 0 < b.tracks → HasFinished b h.core }
 {}
 
 /// The serial history grows by what comes next, and is whole where nothing does.
@@ -96,7 +102,7 @@ pub fn serial_history_grows()
 /// The first lendable name is lendable, and where there is none, no name is.
 pub fn first_lendable_is_found()
     ensures found { (input : List ℕ) (b : Settings) (c : Core MachineState End Difference) (n : Name) →
-        first_lendable (rv32 input) b c c.regions ≡ Some n → lendable (rv32 input) b c n ≡ true }
+        first_lendable (rv32 input) b c c.regions ≡ Some n → IsTrue (lendable (rv32 input) b c n) }
     ensures none { (input : List ℕ) (b : Settings) (c : Core MachineState End Difference) (n : Name) →
         first_lendable (rv32 input) b c c.regions ≡ None → lendable (rv32 input) b c n ≡ false }
 {}

@@ -4,13 +4,10 @@ ghost use Rattle.std.specs.Prelude.{◌≡◌};
 ghost use Rattle.guest_model.specs.MachineState.{flat};
 ghost use Rattle.guest_model.specs.Step.{at_call, at_fast, at_end};
 
-use guest_model::{Memory, State};
+use guest_model::{A7, Memory, State};
 
 /// The word of ECALL.
 const ECALL: u32 = 0x0000_0073;
-
-/// The register a7, which has a service's number.
-const A7: u8 = 17;
 
 /// The number of FastTrack, the call that opens a dual region.
 pub const FAST_TRACK: u32 = 2000;

@@ -14,19 +14,7 @@ use crate::effects::{address, advance, finish, store_bytes};
 use crate::on_registers::{RegisterStep, step_registers};
 use crate::stepped::Stepped;
 use guest_calls::{Served, serve};
-use guest_model::{End, Instr, Memory, State, StoreFault, StoreWidth, Trap};
-
-/// The register a0: the first argument of a service, and its answer.
-const A0: u8 = 10;
-
-/// The register a1: the second argument.
-const A1: u8 = 11;
-
-/// The register a2: the third argument.
-const A2: u8 = 12;
-
-/// The register a7: the number of the service.
-const A7: u8 = 17;
+use guest_model::{A0, A1, A2, A7, End, Instr, Memory, State, StoreFault, StoreWidth, Trap};
 
 /// Carries out ECALL.
 #[inline(always)]

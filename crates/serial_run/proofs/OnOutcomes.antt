@@ -221,8 +221,8 @@ module _ (u w : Posted) (s t : Sinks) (o : Outcome) (fresh : u.entries ≡ []) (
   pub on-whole : IsWhole w o × GetsAll s t (output_of (alone_of w))
   on-whole =
       let ended = ended-idle (machine_of w) w.settings (start_state w) (core_of w) (sound-of w known) (solo-of w on.underway) known.limits.some last.idle in
-      let complete = law-complete (machine_of w) w.settings (start_state w) w.entries (core_of w) ended.finished (exact-of w) known.legal ended.is in
-      let found = found-by o.finished ended.finished (outcome.finish ∙ ended.is) in
+      let complete = law-complete (machine_of w) w.settings (start_state w) w.entries (core_of w) ended.finished (exact-of w) known.legal ended.finish in
+      let found = found-by o.finished ended.finished (outcome.finish ∙ ended.finish) in
       let whole = released-whole ended.finished complete ended.released in
       let total = total-run (machine_of w) w.settings w.entries (opening (start_state w)) (core_of w) known.legal in
       let bytes : on.bytes ≡ (core_of w).released = sym (on.released ∙ ap (λ (ms : List Mark). ms ++ on.bytes) (released-first u fresh)) in (

@@ -19,7 +19,7 @@ use Rattle.guest_model.specs.declared.end.End.{End}
 use Rattle.rv32_law.proofs.Differences.{exact-rv32}
 use Rattle.rv32_law.proofs.Starts.{start-is-guest}
 use Rattle.speculation_law.specs.Naming.{Sound}
-use Rattle.speculation_law.proofs.Soundness.{sound-opening, sound-history, core_run-append}
+use Rattle.speculation_law.proofs.Soundness.{sound-history, core_run-append}
 use Rattle.speculation_law.proofs.Prefixes.{run-parted}
 use Rattle.speculation_law.proofs.SerialSteps.{serial_next-round}
 use Rattle.speculation_law.proofs.SerialRounds.{Solo, solo-front, verified-released}
@@ -194,7 +194,7 @@ module _ (v : Posted) (known : IsKnown v) (underway : IsUnderway v) where
       record {
         known = legal-known (extended v xs) step.new known.limits legal;
         underway = record {
-          so_far = serial_so_far-next (machine_of v) v.settings (start_state v) (exact-of v) v.entries xs (core_of v) (sound-opening (machine_of v) v.settings (start_state v)) underway.so_far known.legal next;
+          so_far = serial_so_far-next (machine_of v) v.settings (start_state v) (exact-of v) v.entries xs (core_of v) underway.so_far known.legal next;
           loans = ap (λ (c : GuestCore). c.loans) core ∙ step.step.solo.loans;
           lost = ap (λ (c : GuestCore). c.lost) core ∙ step.step.solo.lost;
           running = ap (λ (c : GuestCore). c.halted) core ∙ step.step.solo.running;
@@ -265,7 +265,7 @@ can-lend_by v (Some n) oldest known underway undue none live = (n, oldest)
 can-lend_by v None oldest known underway undue none live =
     let idle = next-is v None false None undue (none-shown v none) oldest in
     let ended = ended-idle (machine_of v) v.settings (start_state v) (core_of v) (sound-of v known) (solo-of v underway) known.limits.some idle in
-    let is_over : over (core_of v) ≡ true = ap (λ o. is_some o || (core_of v).halted) ended.is in
+    let is_over : over (core_of v) ≡ true = ap (λ o. is_some o || (core_of v).halted) ended.finish in
     absurd (cc)
 
 -- a board that is not over, with nothing due and nothing to release, can lend

@@ -1,5 +1,5 @@
 -- The due event: the one thing that a core does next by itself, if there is any.
-use Rattle.std.specs.Prelude.{ℕ, ◌+◌, ◌-◌, Bool, true, false, ◌&&◌, List, [], ◌∷◌, Option, Some, None, length, nat_lt, nat_le}
+use Rattle.std.specs.Prelude.{ℕ, ◌+◌, ◌-◌, Bool, true, false, not, ◌&&◌, List, [], ◌∷◌, Option, Some, None, length, if◌then◌else◌, nat_lt, nat_le}
 use Rattle.speculation.specs.declared.tracks.Kind.TheVariants.{Normal, Fast, Segment}
 use Rattle.speculation.specs.declared.history.Settings.{Settings}
 use Rattle.speculation.specs.Machine.{Machine}
@@ -22,24 +22,35 @@ pub data Due (S E D : Type 0) : Type 0 where
 
 -- Finish
 
--- Where the program ended, or the budget was spent. `count` is the base with the front's own count. `spent`: the base is
--- at the budget or above it. `home`: the front is at home. Then its end, and whether its own count is at most what is left
--- of the budget (`within`), at least that (`reached`), and whether it is an original at its boundary (`closed`).
-abbrev pub finish_by : {E : Type 0} → (budget count : ℕ) → (spent home : Bool) → Option E → (within reached closed : Bool) → Option (Finished E)
-finish_by budget count true home end within reached closed = Some (record { end = None; count = budget })
-finish_by budget count false false end within reached closed = None
-finish_by budget count false true (Some e) true reached closed = Some (record { end = Some e; count = count })
-finish_by budget count false true (Some e) false reached closed = Some (record { end = None; count = budget })
-finish_by budget count false true None within false closed = None
-finish_by budget count false true None false true closed = Some (record { end = None; count = budget })
-finish_by budget count false true None true true false = Some (record { end = None; count = budget })
-finish_by budget count false true None true true true = None
+-- Its three conditions, of the verified instructions before the front, the front, and whether it is at home
 
--- the same of a base and a front
+-- the budget is spent before the front
+abbrev pub spent_before : Settings → (base : ℕ) → Bool
+spent_before b base = nat_le b.budget base
+
+-- the end that the front at home met within the budget
+abbrev pub ended_within : {S E D : Type 0} → Machine S E D → Settings → (base : ℕ) → (home : Bool) → Track S → Option E
+ended_within m b base home t = if home && nat_le t.own (b.budget - base) then (track_point m t).end else None
+
+-- an original that closed its region within the budget
+abbrev pub closed_within : {S E D : Type 0} → Machine S E D → Settings → (base : ℕ) → Track S → Bool
+closed_within m b base t = (is_kind t.kind Normal && at_boundary m t) && nat_le t.own (b.budget - base)
+
+-- the front at home reached the budget, and is no original that closed its region within it
+abbrev pub reached_budget : {S E D : Type 0} → Machine S E D → Settings → (base : ℕ) → (home : Bool) → Track S → Bool
+reached_budget m b base home t = home && (nat_le (b.budget - base) t.own && not (closed_within m b base t))
+
+-- the finish by the first of the three that holds: the end with the count of instructions, or no end and the whole budget
+abbrev pub finish_by : {E : Type 0} → (budget count : ℕ) → (spent : Bool) → (ended : Option E) → (reached : Bool) → Option (Finished E)
+finish_by budget count true ended reached = Some (record { end = None; count = budget })
+finish_by budget count false (Some e) reached = Some (record { end = Some e; count = count })
+finish_by budget count false None true = Some (record { end = None; count = budget })
+finish_by budget count false None false = None
+
+-- the finish that is due, if any
 abbrev pub finish_test : {S E D : Type 0} → Machine S E D → Settings → ℕ → Bool → Track S → Option (Finished E)
 finish_test m b base home t =
-    finish_by b.budget (base + t.own) (nat_le b.budget base) home (track_point m t).end
-    (nat_le t.own (b.budget - base)) (nat_le (b.budget - base) t.own) (is_kind t.kind Normal && at_boundary m t)
+    finish_by b.budget (base + t.own) (spent_before b base) (ended_within m b base home t) (reached_budget m b base home t)
 
 -- Cross
 

@@ -37,7 +37,7 @@ slice m b t = unwrap_or (first_from (λ k. has_stop m b (run_on m t k) || nat_le
 
 -- Lend
 
--- A fast lead is of no use past the original's count, once that is known: the oldest such region is the lead's own.
+-- A fast lead is of no use past the original's count, once that is known. Its own region is the youngest.
 abbrev pub wanted : {S E D : Type 0} → Machine S E D → Core S E D → List (Region S) → Bool
 wanted m c [] = true
 wanted m c (r ∷ []) = if at_home c (normal_name c r) && at_boundary m r.normal then nat_lt c.lead.own r.normal.own else true

@@ -1,6 +1,6 @@
 -- The serial history: what one worker does. At each point it takes the due event, else a release, else it lends the
 -- oldest lendable track to seat 0 and gets it back at once.
-use Rattle.std.specs.Prelude.{◌≡◌, ℕ, zero, suc, Bool, true, false, List, [], ◌∷◌, ◌++◌, Option, Some, None, length, if◌then◌else◌, nat_lt}
+use Rattle.std.specs.Prelude.{◌≡◌, ℕ, zero, suc, Bool, true, false, List, [], ◌∷◌, ◌++◌, Option, Some, None, option_map, unwrap_or, length, if◌then◌else◌, nat_lt}
 use Rattle.speculation.specs.declared.tracks.Name.{Name}
 use Rattle.speculation.specs.declared.history.Settings.{Settings}
 use Rattle.speculation.specs.declared.history.Entry.{Entry}
@@ -10,6 +10,7 @@ use Rattle.speculation.specs.Verdicts.{is_kept}
 use Rattle.speculation.specs.Core.{Core, Track, Region, opening, lead_name, normal_name, find_track, verified}
 use Rattle.speculation.specs.Due.{Due, Finishing, Crossing, Judging, Forking, due}
 use Rattle.speculation.specs.Events.{slice, lendable, core_run}
+use Rattle.speculation.specs.Law.{IsHistory}
 
 abbrev pub row_entry : Bool → ℕ → Entry
 row_entry true row = Keep row
@@ -42,20 +43,21 @@ serial_by m b c None false None = None
 abbrev pub serial_next : {S E D : Type 0} → Machine S E D → Settings → Core S E D → Option (List Entry)
 serial_next m b c = serial_by m b c (due m b c) (nat_lt 0 (length (verified b c))) (first_lendable m b c c.regions)
 
-abbrev pub next_of : {S E D : Type 0} → Machine S E D → Settings → Option (Core S E D) → Option (List Entry)
-next_of m b None = None
-next_of m b (Some c) = serial_next m b c
-
-abbrev pub serial_more : (List Entry → List Entry) → Option (List Entry) → List Entry
-serial_more rest None = []
-serial_more rest (Some xs) = xs ++ rest xs
+-- what comes next, and then the entries that `rest` gives at the core that it leads to
+abbrev pub with_next : {S E D : Type 0} → Machine S E D → Settings → Core S E D → (rest : Core S E D → List Entry) → Option (List Entry) → List Entry
+with_next m b c rest None = []
+with_next m b c rest (Some xs) = xs ++ unwrap_or (option_map rest (core_run m b (Some c) xs)) []
 
 -- the first rounds of the serial history from a core on
-unfoldable pub serial : {S E D : Type 0} → Machine S E D → Settings → ℕ → Option (Core S E D) → List Entry
+unfoldable pub serial : {S E D : Type 0} → Machine S E D → Settings → ℕ → Core S E D → List Entry
 serial m b zero c = []
-serial m b (suc k) c = serial_more (λ xs. serial m b k (core_run m b c xs)) (next_of m b c)
+serial m b (suc k) c = with_next m b c (λ d. serial m b k d) (serial_next m b c)
 
--- these entries are the serial history: so many rounds of it, and nothing comes next
-abbrev pub IsSerial : {S E D : Type 0} → Machine S E D → Settings → S → List Entry → Type 0
-IsSerial m b start entries =
-    (rounds : ℕ) × (entries ≡ serial m b rounds (Some (opening start))) × (next_of m b (core_run m b (Some (opening start)) entries) ≡ None)
+-- These entries are the serial history: they are a legal history, they are so many rounds of the serial one, and nothing
+-- comes next at the core that they lead to.
+pub record IsSerial {S E D : Type 0} (m : Machine S E D) (b : Settings) (start : S) (entries : List Entry) : Type 0 where
+  pub core : Core S E D
+  pub legal : IsHistory m b start entries core
+  pub rounds : ℕ
+  pub are_rounds : entries ≡ serial m b rounds (opening start)
+  pub nothing_next : serial_next m b core ≡ None

@@ -9,8 +9,10 @@
 
 pub mod history;
 pub mod laws;
+pub mod limits;
 pub mod toy;
 pub mod tracks;
 
 pub use history::{Entry, Settings};
+pub use limits::{MOST_HELD, MOST_SLICE};
 pub use tracks::{Kind, Name, OpenLoan};

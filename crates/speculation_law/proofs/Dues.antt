@@ -1,5 +1,5 @@
 -- Due events taken apart.
-use Rattle.std.proofs.Common.{◌≡◌, ℕ, ◌<◌, Bool, true, false, ◌&&◌, List, [], ◌∷◌, Option, Some, None, length, nat_lt, refl, subst, ltb-true}
+use Rattle.std.proofs.Common.{◌≡◌, ℕ, ◌<◌, Bool, true, false, not, ◌&&◌, if◌then◌else◌, List, [], ◌∷◌, Option, Some, None, length, nat_lt, nat_le, refl, subst, ltb-true, le-leb, leb-false, arith}
 use Rattle.std.proofs.lemmas.Bool.{and_parts}
 use Rattle.speculation.specs.declared.tracks.Kind.TheVariants.{Fast, Segment}
 use Rattle.speculation.specs.declared.history.Settings.{Settings}
@@ -77,36 +77,48 @@ pub data FinishCase {E : Type 0} (budget count : ℕ) (spent home : Bool) (end :
   IsPast : spent ≡ false → home ≡ true → within ≡ false → record { end = None; count = budget } ≡ f → FinishCase budget count spent home end within reached closed f
   IsReached : spent ≡ false → home ≡ true → end ≡ None → within ≡ true → reached ≡ true → closed ≡ false → record { end = None; count = budget } ≡ f → FinishCase budget count spent home end within reached closed f
 
-pub finish_by-case : {E : Type 0} (budget count : ℕ) (spent home : Bool) (end : Option E) (within reached closed : Bool) (f : Finished E)
-    → finish_by budget count spent home end within reached closed ≡ Some f → FinishCase budget count spent home end within reached closed f
-finish_by-case budget count true home end within reached closed f h = IsSpent refl (cc)
-finish_by-case budget count false false end within reached closed f h = absurd (cc)
-finish_by-case budget count false true (Some e) true reached closed f h = IsEnded e refl refl refl refl (cc)
-finish_by-case budget count false true (Some e) false reached closed f h = IsPast refl refl refl (cc)
-finish_by-case budget count false true None within false closed f h = absurd (cc)
-finish_by-case budget count false true None false true closed f h = IsPast refl refl refl (cc)
-finish_by-case budget count false true None true true false f h = IsReached refl refl refl refl refl refl (cc)
-finish_by-case budget count false true None true true true f h = absurd (cc)
+-- the finish by what the conditions are made of: `within` and `reached`, the front's own count is at most and at least what
+-- is left of the budget; `closed`, it is an original at its boundary
+abbrev pub finish_on : {E : Type 0} → (budget count : ℕ) → (spent home : Bool) → Option E → (within reached closed : Bool) → Option (Finished E)
+finish_on budget count spent home end within reached closed =
+    finish_by budget count spent (if home && within then end else None) (home && (reached && not (closed && within)))
+
+pub finish_on-case : {E : Type 0} (budget count : ℕ) (spent home : Bool) (end : Option E) (within reached closed : Bool) (f : Finished E)
+    → finish_on budget count spent home end within reached closed ≡ Some f → FinishCase budget count spent home end within reached closed f
+finish_on-case budget count true home end within reached closed f h = IsSpent refl (cc)
+finish_on-case budget count false false end within reached closed f h = absurd (cc)
+finish_on-case budget count false true (Some e) true reached closed f h = IsEnded e refl refl refl refl (cc)
+finish_on-case budget count false true None true true false f h = IsReached refl refl refl refl refl refl (cc)
+finish_on-case budget count false true None true true true f h = absurd (cc)
+finish_on-case budget count false true None true false closed f h = absurd (cc)
+finish_on-case budget count false true end false true false f h = IsPast refl refl refl (cc)
+finish_on-case budget count false true end false true true f h = IsPast refl refl refl (cc)
+finish_on-case budget count false true end false false closed f h = absurd (cc)
+
+-- a count that isn't within what is left reached it
+pub past-reached : (own left : ℕ) → nat_le own left ≡ false → nat_le left own ≡ true
+past-reached own left h = (let past = leb-false own left h in le-leb left own (omega arith))
 
 -- where there is no finish, the budget isn't spent
-pub finish_by-unspent : {E : Type 0} (budget count : ℕ) (spent home : Bool) (end : Option E) (within reached closed : Bool)
-    → finish_by budget count spent home end within reached closed ≡ None → spent ≡ false
-finish_by-unspent budget count true home end within reached closed h = absurd (cc)
-finish_by-unspent budget count false home end within reached closed h = refl
+pub finish_on-unspent : {E : Type 0} (budget count : ℕ) (spent home : Bool) (end : Option E) (within reached closed : Bool)
+    → finish_on budget count spent home end within reached closed ≡ None → spent ≡ false
+finish_on-unspent budget count true home end within reached closed h = absurd (cc)
+finish_on-unspent budget count false home end within reached closed h = refl
 
 -- and a front at home that met no end is within the budget
 pub data Unfinished (within reached closed : Bool) : Type 0 where
   Below : reached ≡ false → Unfinished within reached closed
   AtBoundary : within ≡ true → closed ≡ true → Unfinished within reached closed
 
-pub finish_by-none : {E : Type 0} (budget count : ℕ) (home : Bool) (end : Option E) (within reached closed : Bool) → home ≡ true → end ≡ None
-    → finish_by budget count false home end within reached closed ≡ None → Unfinished within reached closed
-finish_by-none budget count false end within reached closed p q h = absurd (cc)
-finish_by-none budget count true (Some e) within reached closed p q h = absurd (cc)
-finish_by-none budget count true None within false closed p q h = Below refl
-finish_by-none budget count true None false true closed p q h = absurd (cc)
-finish_by-none budget count true None true true false p q h = absurd (cc)
-finish_by-none budget count true None true true true p q h = AtBoundary refl refl
+pub finish_on-none : {E : Type 0} (budget count : ℕ) (home : Bool) (end : Option E) (within reached closed : Bool) → home ≡ true → end ≡ None
+    → finish_on budget count false home end within reached closed ≡ None → Unfinished within reached closed
+finish_on-none budget count false end within reached closed p q h = absurd (cc)
+finish_on-none budget count true (Some e) within reached closed p q h = absurd (cc)
+finish_on-none budget count true None within false closed p q h = Below refl
+finish_on-none budget count true None false true false p q h = absurd (cc)
+finish_on-none budget count true None false true true p q h = absurd (cc)
+finish_on-none budget count true None true true false p q h = absurd (cc)
+finish_on-none budget count true None true true true p q h = AtBoundary refl refl
 
 -- Judgements
 

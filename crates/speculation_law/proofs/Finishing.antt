@@ -16,7 +16,7 @@ use Rattle.speculation_law.specs.Sound.{Final, Good}
 use Rattle.speculation_law.proofs.Verdicts.{boundary-ended, taken-all}
 use Rattle.speculation_law.proofs.Walks.{ledger_from-zero, ledger_from-unclosed, ledger_from-segment_ends, ledger_from-segment_spent}
 use Rattle.speculation_law.proofs.Pieces.{marks_upto-none}
-use Rattle.speculation_law.proofs.Dues.{FinishCase, IsSpent, IsEnded, IsPast, IsReached, finish_by-case}
+use Rattle.speculation_law.proofs.Dues.{FinishCase, IsSpent, IsEnded, IsPast, IsReached, finish_on-case}
 use Rattle.speculation_law.proofs.Chains.{boundary-at}
 use Rattle.speculation_law.proofs.Fronts.{go-from, front-stands, before-front}
 
@@ -135,5 +135,5 @@ module _ {S E D : Type 0} (m : Machine S E D) (b : Settings) (start : S) where
   -- a finish that is due is final
   pub final-due : (c : Core S E D) (f : Finished E) → Good m b start c → finish_test m b c.base (front_home c) (front c) ≡ Some f → Final m b start c f
   final-due c f g h =
-      final-case c f g (finish_by-case b.budget (c.base + (front c).own) (nat_le b.budget c.base) (front_home c) (track_point m (front c)).end (nat_le (front c).own (b.budget - c.base)) (nat_le (b.budget - c.base) (front c).own)
+      final-case c f g (finish_on-case b.budget (c.base + (front c).own) (nat_le b.budget c.base) (front_home c) (track_point m (front c)).end (nat_le (front c).own (b.budget - c.base)) (nat_le (b.budget - c.base) (front c).own)
       (is_kind (front c).kind Normal && at_boundary m (front c)) f h)

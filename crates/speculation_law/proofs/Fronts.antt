@@ -6,14 +6,14 @@ use Rattle.speculation.specs.declared.history.Settings.{Settings}
 use Rattle.speculation.specs.Machine.{Machine}
 use Rattle.speculation.specs.Run.{Mark, Point, marks, marks_upto, fresh, go, pieces, out}
 use Rattle.speculation.specs.Core.{Core, Track, Region, front, front_of, track_point, at_boundary, is_kind}
-use Rattle.speculation.specs.Due.{finish_by, finish_test}
+use Rattle.speculation.specs.Due.{finish_test}
 use Rattle.speculation.specs.Events.{new_pieces, run_on, left_over}
 use Rattle.speculation.proofs.Runs.{go-add, going-below}
 use Rattle.speculation_law.specs.Facts.{Whole, Chain}
 use Rattle.speculation_law.specs.Sound.{Numbered, Good}
 use Rattle.speculation_law.proofs.Walks.{fresh-point}
 use Rattle.speculation_law.proofs.Pieces.{marks_upto-append, marks_upto-all, Numbered-append, Numbered-wider, numbered-pieces, marks_upto-pieces, out-min, marks_upto-left_over, Numbered-left_over}
-use Rattle.speculation_law.proofs.Dues.{Unfinished, Below, AtBoundary, finish_by-unspent, finish_by-none}
+use Rattle.speculation_law.proofs.Dues.{Unfinished, Below, AtBoundary, finish_on, finish_on-unspent, finish_on-none}
 use Rattle.speculation_law.proofs.Chains.{front-point, front-going}
 
 -- the output up to where a front t stands that begins behind `base`
@@ -112,17 +112,17 @@ module _ {S E D : Type 0} (m : Machine S E D) (b : Settings) (start : S) where
 
   pub unfinished-unspent : (base : ℕ) (home : Bool) (t : Track S) → finish_test m b base home t ≡ None → base < b.budget
   unfinished-unspent base home t h =
-      leb-false b.budget base (finish_by-unspent b.budget (base + t.own) (nat_le b.budget base) home (track_point m t).end
+      leb-false b.budget base (finish_on-unspent b.budget (base + t.own) (nat_le b.budget base) home (track_point m t).end
       (nat_le t.own (b.budget - base)) (nat_le (b.budget - base) t.own) (is_kind t.kind Normal && at_boundary m t) h)
 
   pub unfinished-case : (base : ℕ) (home : Bool) (t : Track S) → finish_test m b base home t ≡ None → home ≡ true → (track_point m t).end ≡ None
       → Unfinished (nat_le t.own (b.budget - base)) (nat_le (b.budget - base) t.own) (is_kind t.kind Normal && at_boundary m t)
   unfinished-case base home t h is_home going =
-      let spent : nat_le b.budget base ≡ false = finish_by-unspent b.budget (base + t.own) (nat_le b.budget base) home (track_point m t).end
+      let spent : nat_le b.budget base ≡ false = finish_on-unspent b.budget (base + t.own) (nat_le b.budget base) home (track_point m t).end
       (nat_le t.own (b.budget - base)) (nat_le (b.budget - base) t.own) (is_kind t.kind Normal && at_boundary m t) h in
-      finish_by-none b.budget (base + t.own) home (track_point m t).end (nat_le t.own (b.budget - base)) (nat_le (b.budget - base) t.own) (is_kind t.kind Normal && at_boundary m t)
+      finish_on-none b.budget (base + t.own) home (track_point m t).end (nat_le t.own (b.budget - base)) (nat_le (b.budget - base) t.own) (is_kind t.kind Normal && at_boundary m t)
       is_home going
-      (subst (λ x. finish_by b.budget (base + t.own) x home (track_point m t).end (nat_le t.own (b.budget - base)) (nat_le (b.budget - base) t.own) (is_kind t.kind Normal && at_boundary m t) ≡ None) spent h)
+      (subst (λ x. finish_on b.budget (base + t.own) x home (track_point m t).end (nat_le t.own (b.budget - base)) (nat_le (b.budget - base) t.own) (is_kind t.kind Normal && at_boundary m t) ≡ None) spent h)
 
   -- an own count that doesn't finish the run is within what is left
   pub within-by : (own left : ℕ) (closed : Bool) → Unfinished (nat_le own left) (nat_le left own) closed → own ≤ left

@@ -8,13 +8,13 @@ use Rattle.speculation.specs.Machine.{Machine}
 use Rattle.speculation.specs.Run.{Mark, Piece, marks, marks_upto, fresh, go}
 use Rattle.speculation.specs.Verdicts.{Late, Stopped, Judged, Seen, Running, Ended, Met, judge, compared}
 use Rattle.speculation.specs.Core.{Core, Track, Part, Open, Closed, Region, Finished, over, lead_name, normal_name, at_home, lead_home, find_normal, track_by, find_track, front, front_of, front_home, verified, track_point, at_boundary, has_stop, is_kind, held_size, most_held}
-use Rattle.speculation.specs.Due.{Judgement, finish_by, finish_test, cross_test, seen_lead, seen, judgement, verdict_due, fork_test, choose, due}
+use Rattle.speculation.specs.Due.{Judgement, finish_test, cross_test, seen_lead, seen, judgement, verdict_due, fork_test, choose, due}
 use Rattle.speculation.specs.Events.{wanted, is_ready, lendable}
 use Rattle.speculation.specs.Serial.{first_lendable}
 use Rattle.speculation_law.specs.Facts.{Tail, SegmentTrack}
 use Rattle.speculation_law.specs.Sound.{Good}
 use Rattle.speculation_law.proofs.Pieces.{marks_upto-all}
-use Rattle.speculation_law.proofs.Dues.{Unfinished}
+use Rattle.speculation_law.proofs.Dues.{Unfinished, finish_on, past-reached}
 use Rattle.speculation_law.proofs.Judging.{tail-open}
 use Rattle.speculation_law.proofs.Lendables.{unlendable-here, lead-unlendable}
 use Rattle.speculation_law.proofs.SerialRounds.{Solo, solo-home}
@@ -43,9 +43,12 @@ empty-front : {A : Type 0} (xs ys : List A) → length (xs ++ ys) ≤ 0 → leng
 empty-front [] ys h = omega arith
 empty-front (x ∷ xs) ys h = absurd (omega arith)
 
-finish_by-ended : {E : Type 0} (budget count : ℕ) (e : E) (within reached closed : Bool) → finish_by budget count false true (Some e) within reached closed ≡ None → ⊥
-finish_by-ended budget count e true reached closed h = cc
-finish_by-ended budget count e false reached closed h = cc
+-- a front at home that ended within the budget or reached it has a finish
+finish_on-ended : {E : Type 0} (budget count : ℕ) (e : E) (within reached closed : Bool) → (within ≡ false → reached ≡ true) → finish_on budget count false true (Some e) within reached closed ≡ None → ⊥
+finish_on-ended budget count e true reached closed past h = cc
+finish_on-ended budget count e false true false past h = cc
+finish_on-ended budget count e false true true past h = cc
+finish_on-ended budget count e false false closed past h = (let no = past refl in cc)
 
 module _ {S E D : Type 0} (m : Machine S E D) (b : Settings) where
   due-none : (c : Core S E D) → over c ≡ false → due m b c ≡ None → NoneChosen (finish_test m b c.base (front_home c) (front c)) (cross_test m c) (verdict_due m c c.regions) (fork_test m b c)
@@ -54,17 +57,18 @@ module _ {S E D : Type 0} (m : Machine S E D) (b : Settings) where
       choose-none (finish_test m b c.base (front_home c) (front c)) (cross_test m c) (verdict_due m c c.regions) (fork_test m b c)
       (sym (ap (λ o. choose o (finish_test m b c.base (front_home c) (front c)) (cross_test m c) (verdict_due m c c.regions) (fork_test m b c)) live) ∙ h)
 
-  going-by : (o : Option E) (budget count : ℕ) (spent home within reached closed : Bool) → spent ≡ false → home ≡ true → finish_by budget count spent home o within reached closed ≡ None → o ≡ None
-  going-by None budget count spent home within reached closed p q h = refl
-  going-by (Some e) budget count true home within reached closed p q h = absurd (cc)
-  going-by (Some e) budget count false false within reached closed p q h = absurd (cc)
-  going-by (Some e) budget count false true within reached closed p q h = absurd (finish_by-ended budget count e within reached closed h)
+  going-by : (o : Option E) (budget count : ℕ) (spent home within reached closed : Bool) → (within ≡ false → reached ≡ true) → spent ≡ false → home ≡ true
+      → finish_on budget count spent home o within reached closed ≡ None → o ≡ None
+  going-by None budget count spent home within reached closed past p q h = refl
+  going-by (Some e) budget count true home within reached closed past p q h = absurd (cc)
+  going-by (Some e) budget count false false within reached closed past p q h = absurd (cc)
+  going-by (Some e) budget count false true within reached closed past p q h = absurd (finish_on-ended budget count e within reached closed past h)
 
   -- a front at home with no finish met no end
   front-unended : (base : ℕ) (home : Bool) (t : Track S) → base < b.budget → home ≡ true → finish_test m b base home t ≡ None → (track_point m t).end ≡ None
   front-unended base home t unspent is h =
       going-by (track_point m t).end b.budget (base + t.own) (nat_le b.budget base) home (nat_le t.own (b.budget - base)) (nat_le (b.budget - base) t.own) (is_kind t.kind Normal && at_boundary m t)
-      (lt-leb b.budget base unspent) is h
+      (past-reached t.own (b.budget - base)) (lt-leb b.budget base unspent) is h
 
   -- a track with none of the stops
   no-stop : (t : Track S) → at_boundary m t ≡ false → (track_point m t).end ≡ None → t.own < b.budget → has_stop m b t ≡ false

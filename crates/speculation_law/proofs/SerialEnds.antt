@@ -1,5 +1,5 @@
--- The serial history ends, and then the core has a finish and nothing is left to release.
-use Rattle.std.proofs.Common.{◌≡◌, ℕ, zero, suc, ◌-◌, ◌<◌, ◌≤◌, Bool, true, false, ◌||◌, List, [], ◌∷◌, ◌++◌, Option, Some, None, length, is_some, nat_lt, refl, ap, ◌∙◌, ltb-false, arith}
+-- There is a serial history, and its core has a finish with nothing left to release.
+use Rattle.std.proofs.Common.{◌≡◌, ℕ, zero, suc, ◌-◌, ◌<◌, ◌≤◌, Bool, true, false, ◌||◌, List, [], ◌∷◌, ◌++◌, Option, Some, None, length, is_some, nat_lt, refl, sym, ap, ◌∙◌, subst, ltb-false, arith}
 use Rattle.speculation.specs.declared.tracks.Name.{Name}
 use Rattle.speculation.specs.declared.history.Settings.{Settings}
 use Rattle.speculation.specs.declared.history.Entry.{Entry}
@@ -9,13 +9,14 @@ use Rattle.speculation.specs.Core.{Core, Finished, opening, front_home, verified
 use Rattle.speculation.specs.Due.{Due, due}
 use Rattle.speculation.specs.Effects.{effect}
 use Rattle.speculation.specs.Events.{released_core, core_run}
-use Rattle.speculation.specs.Law.{Exact, IsHistory}
-use Rattle.speculation.specs.Serial.{first_lendable, serial_by, serial_next, next_of, serial_more, serial, IsSerial}
+use Rattle.speculation.specs.Law.{Exact}
+use Rattle.speculation.specs.Serial.{first_lendable, serial_by, serial_next, serial, IsSerial}
 use Rattle.speculation_law.specs.Naming.{Sound}
-use Rattle.speculation_law.specs.Serial.{SerialHistory}
+use Rattle.speculation_law.specs.Serial.{HasFinished}
 use Rattle.speculation_law.proofs.Happens.{lent_core, back_core}
 use Rattle.speculation_law.proofs.Soundness.{sound-opening, sound-on, core_run-append}
-use Rattle.speculation_law.proofs.SerialSteps.{Round, DueRound, ReleaseRound, LendRound, serial_next-round}
+use Rattle.speculation_law.proofs.SerialSteps.{Round, DueRound, ReleaseRound, LendRound, serial_next-round, serial-some, run-none}
+use Rattle.speculation_law.proofs.SerialSoFar.{serial-only}
 use Rattle.speculation_law.proofs.Weights.{weigh, digits_of}
 use Rattle.speculation_law.proofs.SerialRounds.{Solo, solo-due, solo-released_by, solo-back, falls-due, falls-released, falls-lent}
 use Rattle.speculation_law.proofs.Progress.{progress}
@@ -33,12 +34,6 @@ module _ {S E D : Type 0} (m : Machine S E D) (b : Settings) where
   idle-by c None false (Some n) h = absurd (cc)
   idle-by c None false None h = record { undue = refl; unshown = refl; unlendable = refl }
 
-  -- the finish of a core with which the serial history ended
-  pub record Ended (c : Core S E D) : Type 0 where
-    pub finished : Finished E
-    pub is : c.finish ≡ Some finished
-    pub released : verified b c ≡ []
-
   finish-by : (o : Option (Finished E)) (halted : Bool) → halted ≡ false → (is_some o || halted) ≡ true → (f : Finished E) × (o ≡ Some f)
   finish-by (Some f) halted h k = (f, refl)
   finish-by None true h k = absurd (cc)
@@ -49,13 +44,13 @@ module _ {S E D : Type 0} (m : Machine S E D) (b : Settings) where
   none-left (x ∷ ms) h = absurd (omega arith)
 
   -- a solo core that is sound and after which nothing comes has a finish, and nothing is left to release
-  pub ended-idle : (start : S) (c : Core S E D) → Sound m b start c → Solo c → 0 < b.tracks → serial_next m b c ≡ None → Ended c
+  pub ended-idle : (start : S) (c : Core S E D) → Sound m b start c → Solo c → 0 < b.tracks → serial_next m b c ≡ None → HasFinished b c
   ended-idle start c sound solo some h =
       let idle = idle-by c (due m b c) (nat_lt 0 (length (verified b c))) (first_lendable m b c c.regions) h in
       let none = ltb-false 0 (length (verified b c)) idle.unshown in
       let is_over = progress m b start c sound.good solo some idle.undue none idle.unlendable in
       let finish = finish-by c.finish c.halted solo.running is_over in
-      record { finished = finish.0; is = finish.1; released = none-left (verified b c) none }
+      record { finished = finish.0; finish = finish.1; released = none-left (verified b c) none }
 
   -- a round of a solo core
   pub record Stepped (start : S) (c new : Core S E D) (xs : List Entry) : Type 0 where
@@ -83,33 +78,26 @@ module _ {S E D : Type 0} (m : Machine S E D) (b : Settings) where
   pub record Finishes (start : S) (c : Core S E D) : Type 0 where
     pub rounds : ℕ
     pub last : Core S E D
-    pub leads : core_run m b (Some c) (serial m b rounds (Some c)) ≡ Some last
+    pub leads : core_run m b (Some c) (serial m b rounds c) ≡ Some last
     pub idle : serial_next m b last ≡ None
     pub sound : Sound m b start last
     pub solo : Solo last
 
-  run-none : (c : Core S E D) → core_run m b (Some c) [] ≡ Some c
-  unfolding core_run
-  run-none c = refl
-
   finishes-now : (start : S) (c : Core S E D) → Sound m b start c → Solo c → serial_next m b c ≡ None → Finishes start c
   unfolding serial
-  finishes-now start c sound solo h = record { rounds = 0; last = c; leads = run-none c; idle = h; sound = sound; solo = solo }
+  finishes-now start c sound solo h = record { rounds = 0; last = c; leads = run-none m b c; idle = h; sound = sound; solo = solo }
 
   finishes-later : (start : S) (c : Core S E D) (xs : List Entry) → serial_next m b c ≡ Some xs → (step : SomeStep start c xs) → Finishes start step.new → Finishes start c
-  unfolding serial
-  finishes-later start c xs is step rest =
-      let next : serial m b (suc rest.rounds) (Some c) ≡ xs ++ serial m b rest.rounds (Some step.new)
-      = ap (serial_more (λ ys. serial m b rest.rounds (core_run m b (Some c) ys))) is ∙ ap (λ o. xs ++ serial m b rest.rounds o) step.step.leads in
-      record {
-        rounds = suc rest.rounds;
-        last = rest.last;
-        idle = rest.idle;
-        sound = rest.sound;
-        solo = rest.solo;
-        leads = ap (core_run m b (Some c)) next ∙ core_run-append m b start xs (serial m b rest.rounds (Some step.new)) (Some c)
-            ∙ ap (λ o. core_run m b o (serial m b rest.rounds (Some step.new))) step.step.leads ∙ rest.leads;
-      }
+  finishes-later start c xs is step rest = record {
+    rounds = suc rest.rounds;
+    last = rest.last;
+    idle = rest.idle;
+    sound = rest.sound;
+    solo = rest.solo;
+    leads = ap (core_run m b (Some c)) (serial-some m b rest.rounds c step.new xs is step.step.leads)
+        ∙ core_run-append m b start xs (serial m b rest.rounds step.new) (Some c)
+        ∙ ap (λ o. core_run m b o (serial m b rest.rounds step.new)) step.step.leads ∙ rest.leads;
+  }
 
   module _ (start : S) (exact : Exact m start) where
     finishes-by : (c : Core S E D) (o : Option (List Entry)) → serial_next m b c ≡ o → Sound m b start c → Solo c
@@ -131,32 +119,23 @@ module _ {S E D : Type 0} (m : Machine S E D) (b : Settings) where
         let all : weigh b (digits_of b c) ≤ weigh b (digits_of b c) = omega arith in
         finishes-within (weigh b (digits_of b c)) c all (sound-opening m b start) (record { loans = refl; lost = refl; running = refl })
 
-    -- with a finish, and nothing left to release
-    pub serial-ended : 0 < b.tracks → Ended serial-finishes.last
-    serial-ended some = ended-idle start serial-finishes.last serial-finishes.sound serial-finishes.solo some serial-finishes.idle
+    -- there is one
+    pub serial-exists : (entries : List Entry) × IsSerial m b start entries
+    serial-exists = (
+      serial m b serial-finishes.rounds (opening start),
+      record {
+        core = serial-finishes.last;
+        legal = serial-finishes.leads;
+        rounds = serial-finishes.rounds;
+        are_rounds = refl;
+        nothing_next = serial-finishes.idle;
+      },
+    )
 
-    -- its entries
-    pub serial-entries : List Entry
-    serial-entries = serial m b serial-finishes.rounds (Some (opening start))
-
-    pub serial-is : IsSerial m b start serial-entries
-    unfolding serial-entries
-    serial-is = (serial-finishes.rounds, refl, ap (next_of m b) serial-finishes.leads ∙ serial-finishes.idle)
-
-    pub serial-history : IsHistory m b start serial-entries serial-finishes.last
-    unfolding serial-entries
-    serial-history = serial-finishes.leads
-
-    -- all of it
-    pub serial-whole : 0 < b.tracks → SerialHistory m b start
-    serial-whole some =
-        let ended = serial-ended some in
-        record {
-          entries = serial-entries;
-          serial = serial-is;
-          core = serial-finishes.last;
-          legal = serial-history;
-          finished = ended.finished;
-          finish = ended.is;
-          released = ended.released;
-        }
+    -- and where at least one region may be open it has a finish, with nothing left to release
+    pub serial-finished : (entries : List Entry) (h : IsSerial m b start entries) → 0 < b.tracks → HasFinished b h.core
+    unfolding serial-exists
+    serial-finished entries h some =
+        let same : entries ≡ serial-exists.0 = serial-only m b start exact entries serial-exists.0 h serial-exists.1 in
+        let core : serial-finishes.last ≡ h.core = (let at : Some serial-finishes.last ≡ Some h.core = sym serial-finishes.leads ∙ sym (ap (core_run m b (Some (opening start))) same) ∙ h.legal in cc) in
+        subst (λ (c : Core S E D). HasFinished b c) core (ended-idle start serial-finishes.last serial-finishes.sound serial-finishes.solo some serial-finishes.idle)

@@ -1,5 +1,5 @@
--- What comes next in the serial history is allowed, so the serial history is legal.
-use Rattle.std.proofs.Common.{◌≡◌, ℕ, zero, suc, Bool, true, false, not, ◌&&◌, if◌then◌else◌, List, [], ◌∷◌, Option, Some, None, length, is_none, nat_eq, nat_lt, refl, ap, ap₂, ◌∙◌, subst, eq-eqb}
+-- What comes next in the serial history is allowed, and what its first rounds are.
+use Rattle.std.proofs.Common.{◌≡◌, ℕ, zero, suc, Bool, true, false, not, ◌&&◌, if◌then◌else◌, List, [], ◌∷◌, ◌++◌, Option, Some, None, option_map, unwrap_or, length, is_none, nat_eq, nat_lt, refl, sym, ap, ap₂, ◌∙◌, subst, eq-eqb}
 use Rattle.std.proofs.lemmas.Bool.{and_from}
 use Rattle.speculation.specs.declared.tracks.Name.{Name}
 use Rattle.speculation.specs.declared.tracks.OpenLoan.{OpenLoan}
@@ -8,19 +8,18 @@ use Rattle.speculation.specs.declared.history.Entry.{Entry}
 use Rattle.speculation.specs.declared.history.Entry.TheVariants.{Lend, Back, Fork, Cross, Keep, Discard, Release, Finish}
 use Rattle.speculation.specs.Machine.{Machine}
 use Rattle.speculation.specs.Verdicts.{is_kept}
-use Rattle.speculation.specs.Core.{Core, Track, Region, opening, over, lead_name, normal_name, find_loan, find_track, verified}
+use Rattle.speculation.specs.Core.{Core, Track, Region, over, lead_name, normal_name, find_loan, find_track, verified}
 use Rattle.speculation.specs.Due.{Judgement, Due, Finishing, Crossing, Judging, Forking, due}
 use Rattle.speculation.specs.Effects.{effect}
 use Rattle.speculation.specs.Events.{some_if, slice, lendable, back_of, released_core, is_row_entry, is_entry_of, due_done, event, core_run}
-use Rattle.speculation.specs.Law.{Exact}
-use Rattle.speculation.specs.Serial.{row_entry, entry_of, first_lendable, slice_of, serial_by, serial_next, serial_more, serial}
-use Rattle.speculation_law.specs.Naming.{Named, Sound}
+use Rattle.speculation.specs.Serial.{row_entry, entry_of, first_lendable, slice_of, serial_by, serial_next, with_next, serial}
+use Rattle.speculation_law.specs.Naming.{Named}
 use Rattle.speculation_law.proofs.Names.{name_eq-refl, home-lent}
 use Rattle.speculation_law.proofs.FindLoan.{find_loan-new}
 use Rattle.speculation_law.proofs.Lending.{Lendable, SomeLendable, lendable-true}
 use Rattle.speculation_law.proofs.Happens.{lent_core, back_core}
 use Rattle.speculation_law.proofs.Naming.{find_loan-home}
-use Rattle.speculation_law.proofs.Soundness.{sound-opening, sound-on, core_run-append}
+use Rattle.speculation_law.proofs.Soundness.{core_run-append}
 
 some_if-true : {A : Type 0} (t : Bool) (a : A) → t ≡ true → some_if t a ≡ Some a
 some_if-true true a h = refl
@@ -127,30 +126,30 @@ module _ {S E D : Type 0} (m : Machine S E D) (b : Settings) where
   pub serial_next-allowed : (c : Core S E D) (xs : List Entry) → Named c → serial_next m b c ≡ Some xs → Allowed m b c xs
   serial_next-allowed c xs named h = round-allowed c xs (serial_next-round c xs named h)
 
-  run-none : (c : Core S E D) → core_run m b (Some c) [] ≡ Some c
+  -- The first rounds of the serial history
+
+  -- none from a core after which nothing comes
+  pub serial-none : (k : ℕ) (c : Core S E D) → serial_next m b c ≡ None → serial m b k c ≡ []
+  unfolding serial
+  serial-none zero c h = refl
+  serial-none (suc k) c h = ap (with_next m b c (λ d. serial m b k d)) h
+
+  -- and else what comes next, and then those from the core that it leads to
+  pub serial-some : (k : ℕ) (c mid : Core S E D) (xs : List Entry) → serial_next m b c ≡ Some xs → core_run m b (Some c) xs ≡ Some mid → serial m b (suc k) c ≡ xs ++ serial m b k mid
+  unfolding serial
+  serial-some k c mid xs next leads =
+      ap (with_next m b c (λ d. serial m b k d)) next ∙ ap (λ o. xs ++ unwrap_or (option_map (λ d. serial m b k d) o) []) leads
+
+  -- which lead on from there
+  pub serial-rest : (start : S) (k : ℕ) (c mid last : Core S E D) (xs : List Entry) → serial_next m b c ≡ Some xs → core_run m b (Some c) xs ≡ Some mid
+      → core_run m b (Some c) (serial m b (suc k) c) ≡ Some last → core_run m b (Some mid) (serial m b k mid) ≡ Some last
+  serial-rest start k c mid last xs next leads led =
+      sym (ap (core_run m b (Some c)) (serial-some k c mid xs next leads) ∙ core_run-append m b start xs (serial m b k mid) (Some c) ∙ ap (λ o. core_run m b o (serial m b k mid)) leads) ∙ led
+
+  pub run-none : (c : Core S E D) → core_run m b (Some c) [] ≡ Some c
   unfolding core_run
   run-none c = refl
 
-  module _ (start : S) (exact : Exact m start) where
-    more-allowed : (k : ℕ) (c : Core S E D) (o : Option (List Entry)) → serial_next m b c ≡ o → Sound m b start c → ((d : Core S E D) → Sound m b start d → Allowed m b d (serial m b k (Some d)))
-        → Allowed m b c (serial_more (λ xs. serial m b k (core_run m b (Some c) xs)) o)
-    more-allowed k c None is sound rest = record { new = c; leads = run-none c }
-    more-allowed k c (Some xs) is sound rest =
-        let here = serial_next-allowed c xs sound.named is in
-        let more = rest here.new (sound-on m b start xs c here.new exact sound here.leads) in
-        let same : serial m b k (core_run m b (Some c) xs) ≡ serial m b k (Some here.new) = ap (serial m b k) here.leads in
-        record {
-          new = more.new;
-          leads = core_run-append m b start xs (serial m b k (core_run m b (Some c) xs)) (Some c)
-              ∙ ap₂ (λ (o : Option (Core S E D)) (ys : List Entry). core_run m b o ys) here.leads same ∙ more.leads;
-        }
-
-    -- so many rounds from a sound core on
-    pub serial-allowed : (k : ℕ) (c : Core S E D) → Sound m b start c → Allowed m b c (serial m b k (Some c))
-    unfolding serial
-    serial-allowed zero c sound = record { new = c; leads = run-none c }
-    serial-allowed (suc k) c sound = more-allowed k c (serial_next m b c) refl sound (λ d h. serial-allowed k d h)
-
-    -- the serial history is legal
-    pub serial-legal : (k : ℕ) → Allowed m b (opening start) (serial m b k (Some (opening start)))
-    serial-legal k = serial-allowed k (opening start) (sound-opening m b start)
+  -- entries of no round lead nowhere else
+  pub serial-still : (k : ℕ) (c last : Core S E D) → serial m b k c ≡ [] → core_run m b (Some c) (serial m b k c) ≡ Some last → c ≡ last
+  serial-still k c last none led = (let same : Some c ≡ Some last = sym (ap (core_run m b (Some c)) none ∙ run-none c) ∙ led in cc)

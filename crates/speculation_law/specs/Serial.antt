@@ -5,18 +5,13 @@ use Rattle.speculation.specs.declared.history.Entry.{Entry}
 use Rattle.speculation.specs.Machine.{Machine}
 use Rattle.speculation.specs.Core.{Core, Finished, opening, verified}
 use Rattle.speculation.specs.Events.{core_run}
-use Rattle.speculation.specs.Law.{IsHistory}
-use Rattle.speculation.specs.Serial.{serial, IsSerial}
+use Rattle.speculation.specs.Serial.{serial}
 
--- The serial history of these settings and this start: it is legal, it has a finish, and nothing is left to release.
-pub record SerialHistory {S E D : Type 0} (m : Machine S E D) (b : Settings) (start : S) : Type 0 where
-  pub entries : List Entry
-  pub serial : IsSerial m b start entries
-  pub core : Core S E D
-  pub legal : IsHistory m b start entries core
+-- the core has a finish, and nothing that is verified is left
+pub record HasFinished {S E D : Type 0} (b : Settings) (c : Core S E D) : Type 0 where
   pub finished : Finished E
-  pub finish : core.finish ≡ Some finished
-  pub released : verified b core ≡ []
+  pub finish : c.finish ≡ Some finished
+  pub released : verified b c ≡ []
 
 -- these entries are allowed from c on
 abbrev pub IsAllowed : {S E D : Type 0} → Machine S E D → Settings → Core S E D → List Entry → Type 0
@@ -24,4 +19,4 @@ IsAllowed {S} {E} {D} m b c xs = (new : Core S E D) × (core_run m b (Some c) xs
 
 -- these entries are so many rounds of the serial history
 abbrev pub IsSerialSoFar : {S E D : Type 0} → Machine S E D → Settings → S → List Entry → Type 0
-IsSerialSoFar m b start entries = (rounds : ℕ) × (entries ≡ serial m b rounds (Some (opening start)))
+IsSerialSoFar m b start entries = (rounds : ℕ) × (entries ≡ serial m b rounds (opening start))

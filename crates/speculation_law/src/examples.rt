@@ -2,6 +2,7 @@
 ghost use Rattle.std.specs.Prelude.{◌≡◌, [], ◌∷◌, ◌++◌};
 ghost use Rattle.speculation.specs.declared.history.Entry.TheVariants.{Gone};
 ghost use Rattle.speculation.specs.Ledger.{ledger};
+ghost use Rattle.speculation.specs.Core.{opening};
 ghost use Rattle.speculation.specs.Events.{core_run};
 ghost use Rattle.speculation.specs.Serial.{serial};
 ghost use Rattle.speculation.specs.Toy.{toy};
@@ -9,7 +10,7 @@ ghost use Rattle.speculation_law.specs.Examples.{at_start, opened, slow_name, ou
 
 /// One region, whose fast version is kept.
 pub fn kept_region()
-    ensures serial { serial (toy kept_program) kept_settings 20 opened ≡ kept_history }
+    ensures serial { serial (toy kept_program) kept_settings 20 (opening at_start) ≡ kept_history }
     ensures outcome { outcome_of (core_run (toy kept_program) kept_settings opened kept_history) ≡ kept_outcome }
 {}
 
@@ -23,6 +24,6 @@ pub fn discarded_region()
 
 /// One region, whose fast version never closes it.
 pub fn late_region()
-    ensures serial { serial (toy late_program) late_settings 20 opened ≡ late_history }
+    ensures serial { serial (toy late_program) late_settings 20 (opening at_start) ≡ late_history }
     ensures outcome { outcome_of (core_run (toy late_program) late_settings opened late_history) ≡ late_outcome }
 {}

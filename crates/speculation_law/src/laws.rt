@@ -1,5 +1,5 @@
 //! The laws of histories at the toy machine, each the contract of a function that does nothing.
-ghost use Rattle.std.specs.Prelude.{◌≡◌, ◌<◌, ℕ, List, ◌++◌, Some, None, true, false};
+ghost use Rattle.std.specs.Prelude.{◌≡◌, ◌<◌, ℕ, List, ◌++◌, Some, None, false, IsTrue};
 ghost use Rattle.speculation.specs.declared.tracks.Name.{Name};
 ghost use Rattle.speculation.specs.declared.tracks.OpenLoan.{OpenLoan};
 ghost use Rattle.speculation.specs.declared.history.Settings.{Settings};
@@ -21,7 +21,7 @@ ghost use Rattle.speculation_law.specs.Sees.{Sees};
 ghost use Rattle.speculation_law.specs.Naming.{Sound};
 ghost use Rattle.speculation_law.specs.Totals.{Totalled};
 ghost use Rattle.speculation_law.specs.Fates.{TrackStays};
-ghost use Rattle.speculation_law.specs.Serial.{SerialHistory, IsAllowed, IsSerialSoFar};
+ghost use Rattle.speculation_law.specs.Serial.{HasFinished, IsAllowed, IsSerialSoFar};
 
 /// Of every legal history, what came out and what may come out is a prefix of what the program alone writes within the
 /// budget, and the rows are a prefix of its ledger. Where the history has a finish, end and count are the program's own,
@@ -76,9 +76,14 @@ pub fn serial_steps_are_allowed()
         IsHistory (toy program) b start entries c → serial_next (toy program) b c ≡ Some xs → IsAllowed (toy program) b c xs }
 {}
 
-/// The serial history ends, where at least one region may be open, and then it has a finish.
+/// There is one serial history and no other. Where at least one region may be open, it has a finish, and nothing that is
+/// verified is left.
 pub fn serial_history_ends()
-    ensures { (program : List Instruction) (b : Settings) (start : State) → 0 < b.tracks → SerialHistory (toy program) b start }
+    ensures exists { (program : List Instruction) (b : Settings) (start : State) → (entries : List Entry) × IsSerial (toy program) b start entries }
+    ensures only { (program : List Instruction) (b : Settings) (start : State) (entries others : List Entry) →
+        IsSerial (toy program) b start entries → IsSerial (toy program) b start others → entries ≡ others }
+    ensures finished { (program : List Instruction) (b : Settings) (start : State) (entries : List Entry) (h : IsSerial (toy program) b start entries) →
+        0 < b.tracks → HasFinished b h.core }
 {}
 
 /// The serial history grows by what comes next, and is whole where nothing does.
@@ -94,7 +99,7 @@ pub fn serial_history_grows()
 /// The first lendable name is lendable, and where there is none, no name is.
 pub fn first_lendable_is_found()
     ensures found { (program : List Instruction) (b : Settings) (c : Core State End Difference) (n : Name) →
-        first_lendable (toy program) b c c.regions ≡ Some n → lendable (toy program) b c n ≡ true }
+        first_lendable (toy program) b c c.regions ≡ Some n → IsTrue (lendable (toy program) b c n) }
     ensures none { (program : List Instruction) (b : Settings) (c : Core State End Difference) (n : Name) →
         first_lendable (toy program) b c c.regions ≡ None → lendable (toy program) b c n ≡ false }
 {}

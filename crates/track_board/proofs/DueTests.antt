@@ -5,7 +5,7 @@ use Rattle.speculation.specs.declared.tracks.Kind.TheVariants.{Normal}
 use Rattle.speculation.specs.declared.history.Settings.{Settings}
 use Rattle.speculation.specs.Verdicts.{Judged, Running, judge}
 use Rattle.speculation.specs.Core.{Track as CoreTrack, Region as CoreRegion, Part, Open as CoreOpen, Finished as CoreFinished, track_point, at_boundary, is_kind, front_of, front_name, at_home, lead_home}
-use Rattle.speculation.specs.Due.{Judgement as CoreJudgement, finish_by, finish_test, seen_lead, seen, judgement, verdict_due}
+use Rattle.speculation.specs.Due.{Judgement as CoreJudgement, finish_test, seen_lead, seen, judgement, verdict_due}
 use Rattle.guest_model.specs.MachineState.{MachineState}
 use Rattle.guest_model.specs.Rv32.{rv32}
 use Rattle.guest_model.specs.declared.difference.Difference.{Difference}
@@ -24,6 +24,7 @@ use Rattle.track_board.specs.declared.slot.Slot.TheVariants.{Home, Away}
 use Rattle.track_board.specs.Value.{GuestCore}
 use Rattle.track_board.specs.Parts.{SlotStands, RegionsStand, core_fast}
 use Rattle.track_board.specs.Invariant.{home_at}
+use Rattle.speculation_law.proofs.Dues.{finish_on, past-reached}
 use Rattle.track_board.specs.DueTests.{front_slot, is_boundary, slot_at_boundary, spent_at, finish_by_stop, track_finish, slot_finish, seen_by_stop, seen_slot, seen_fast, judged_slot, judged_first}
 use Rattle.track_board.proofs.Foundation.{kind-home, own-home, end-home, state-home, boundary-home}
 
@@ -57,32 +58,33 @@ ended-finish budget count e true h = ap (λ (o : Option End). let f : CoreFinish
 ended-finish budget count e false h = refl
 
 -- an end, or none, where the budget isn't spent
-finish-by_end : (budget count : ℕ) (e : Option End) (spent original within reached : Bool) → IsOwnEnd e
-    → option_map core_finished (finish_by_stop budget count (stop_by false e spent) (if original then within else false) within reached) ≡ finish_by budget count false true e within reached (original && false)
-finish-by_end budget count (Some e) spent true true reached own = ended-finish budget count e true own
-finish-by_end budget count (Some e) spent false true reached own = ended-finish budget count e true own
-finish-by_end budget count (Some e) spent true false reached own = refl
-finish-by_end budget count (Some e) spent false false reached own = refl
-finish-by_end budget count None true true true true own = refl
-finish-by_end budget count None true true true false own = refl
-finish-by_end budget count None true true false true own = refl
-finish-by_end budget count None true true false false own = refl
-finish-by_end budget count None true false true true own = refl
-finish-by_end budget count None true false true false own = refl
-finish-by_end budget count None true false false true own = refl
-finish-by_end budget count None true false false false own = refl
-finish-by_end budget count None false true true true own = refl
-finish-by_end budget count None false true true false own = refl
-finish-by_end budget count None false true false true own = refl
-finish-by_end budget count None false true false false own = refl
-finish-by_end budget count None false false true true own = refl
-finish-by_end budget count None false false true false own = refl
-finish-by_end budget count None false false false true own = refl
-finish-by_end budget count None false false false false own = refl
+finish-by_end : (budget count : ℕ) (e : Option End) (spent original within reached : Bool) → IsOwnEnd e → (within ≡ false → reached ≡ true)
+    → option_map core_finished (finish_by_stop budget count (stop_by false e spent) (if original then within else false) within reached) ≡ finish_on budget count false true e within reached (original && false)
+finish-by_end budget count (Some e) spent true true reached own past = ended-finish budget count e true own
+finish-by_end budget count (Some e) spent false true reached own past = ended-finish budget count e true own
+finish-by_end budget count (Some e) spent true false true own past = refl
+finish-by_end budget count (Some e) spent false false true own past = refl
+finish-by_end budget count (Some e) spent original false false own past = absurd (let no = past refl in cc)
+finish-by_end budget count None true true true true own past = refl
+finish-by_end budget count None true true true false own past = refl
+finish-by_end budget count None true true false true own past = refl
+finish-by_end budget count None true true false false own past = refl
+finish-by_end budget count None true false true true own past = refl
+finish-by_end budget count None true false true false own past = refl
+finish-by_end budget count None true false false true own past = refl
+finish-by_end budget count None true false false false own past = refl
+finish-by_end budget count None false true true true own past = refl
+finish-by_end budget count None false true true false own past = refl
+finish-by_end budget count None false true false true own past = refl
+finish-by_end budget count None false true false false own past = refl
+finish-by_end budget count None false false true true own past = refl
+finish-by_end budget count None false false true false own past = refl
+finish-by_end budget count None false false false true own past = refl
+finish-by_end budget count None false false false false own past = refl
 
 -- a boundary
 finish-by_boundary : (budget count : ℕ) (spent original within reached : Bool)
-    → option_map core_finished (finish_by_stop budget count (stop_by true None spent) (if original then within else false) within reached) ≡ finish_by budget count false true None within reached (original && true)
+    → option_map core_finished (finish_by_stop budget count (stop_by true None spent) (if original then within else false) within reached) ≡ finish_on budget count false true None within reached (original && true)
 finish-by_boundary budget count spent true true true = refl
 finish-by_boundary budget count spent true true false = refl
 finish-by_boundary budget count spent true false true = refl
@@ -92,19 +94,19 @@ finish-by_boundary budget count spent false true false = refl
 finish-by_boundary budget count spent false false true = refl
 finish-by_boundary budget count spent false false false = refl
 
-finish-by : (budget count : ℕ) (boundary : Bool) (e : Option End) (spent original within reached : Bool) → IsOwnEnd e → (boundary ≡ true → e ≡ None)
-    → option_map core_finished (finish_by_stop budget count (stop_by boundary e spent) (if original then within else false) within reached) ≡ finish_by budget count false true e within reached (original && boundary)
-finish-by budget count false e spent original within reached own none = finish-by_end budget count e spent original within reached own
-finish-by budget count true None spent original within reached own none = finish-by_boundary budget count spent original within reached
-finish-by budget count true (Some e) spent original within reached own none = absurd (let no : Some e ≡ None = none refl in cc)
+finish-by : (budget count : ℕ) (boundary : Bool) (e : Option End) (spent original within reached : Bool) → IsOwnEnd e → (boundary ≡ true → e ≡ None) → (within ≡ false → reached ≡ true)
+    → option_map core_finished (finish_by_stop budget count (stop_by boundary e spent) (if original then within else false) within reached) ≡ finish_on budget count false true e within reached (original && boundary)
+finish-by budget count false e spent original within reached own none past = finish-by_end budget count e spent original within reached own past
+finish-by budget count true None spent original within reached own none past = finish-by_boundary budget count spent original within reached
+finish-by budget count true (Some e) spent original within reached own none past = absurd (let no : Some e ≡ None = none refl in cc)
 
-spent-or : (budget : ℕ) (count : ℕ) (spent : Bool) (end : Option End) (within reached closed : Bool) (o : Option Finished) → option_map core_finished o ≡ finish_by budget count false true end within reached closed
-    → option_map core_finished (if spent then Some (spent_at budget) else o) ≡ finish_by budget count spent true end within reached closed
+spent-or : (budget : ℕ) (count : ℕ) (spent : Bool) (end : Option End) (within reached closed : Bool) (o : Option Finished) → option_map core_finished o ≡ finish_on budget count false true end within reached closed
+    → option_map core_finished (if spent then Some (spent_at budget) else o) ≡ finish_on budget count spent true end within reached closed
 spent-or budget count true end within reached closed o h = refl
 spent-or budget count false end within reached closed o h = h
 
 spent-away : (budget count : ℕ) (spent : Bool) (end : Option End) (within reached closed : Bool)
-    → option_map core_finished (if spent then Some (spent_at budget) else None) ≡ finish_by budget count spent false end within reached closed
+    → option_map core_finished (if spent then Some (spent_at budget) else None) ≡ finish_on budget count spent false end within reached closed
 spent-away budget count true end within reached closed = refl
 spent-away budget count false end within reached closed = refl
 
@@ -122,11 +124,11 @@ module _ (input : List ℕ) (limit : ℕ) where
       let v = view_of x in
       let left : ℕ = b.budget - base in
       let test : Bool → ℕ → Option End → Kind → Bool → Option (CoreFinished End) = λ here own end kind boundary.
-      finish_by b.budget (base + own) (nat_le b.budget base) here end (nat_le own left) (nat_le left own) (is_kind kind Normal && boundary) in
+      finish_on b.budget (base + own) (nat_le b.budget base) here end (nat_le own left) (nat_le left own) (is_kind kind Normal && boundary) in
       let ended : IsOwnEnd v.end = subst IsOwnEnd (end-home input limit x home t h) own_end in
       let here : option_map core_finished (slot_finish b.budget base (Home x)) ≡ test true v.own v.end v.kind (is_at_boundary v) =
       spent-or b.budget (base + v.own) (nat_le b.budget base) v.end (nat_le v.own left) (nat_le left v.own) (is_kind v.kind Normal && is_at_boundary v) (track_finish b.budget base v)
-      (finish-by b.budget (base + v.own) (is_at_boundary v) v.end _ (is_kind v.kind Normal) (nat_le v.own left) (nat_le left v.own) ended (boundary-unended v)) in
+      (finish-by b.budget (base + v.own) (is_at_boundary v) v.end _ (is_kind v.kind Normal) (nat_le v.own left) (nat_le left v.own) ended (boundary-unended v) (past-reached v.own left)) in
       here
       ∙ ap (λ (t : Bool). test t v.own v.end v.kind (is_at_boundary v)) (sym h.here)
       ∙ ap (λ (n : ℕ). test home n v.end v.kind (is_at_boundary v)) (sym (own-home input limit x home t h))

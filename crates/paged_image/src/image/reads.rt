@@ -1,6 +1,6 @@
 //! Pages and ranges of an image, to be read.
 
-ghost use Rattle.std.specs.Prelude.{◌≡◌, ◌+◌, ◌-◌, ◌/◌, ◌%◌, ◌^◌, ◌<◌, ◌≤◌, true, length, slice_get, Some, None, IfSome, IfNone, is_some, option_copied};
+ghost use Rattle.std.specs.Prelude.{◌≡◌, ◌+◌, ◌-◌, ◌/◌, ◌%◌, ◌^◌, ◌<◌, ◌≤◌, IsTrue, length, slice_get, Some, None, IfSome, IfNone, is_some, option_copied};
 ghost use Rattle.guest_model.specs.ByteMap.{mapped, bytes_from, CopiesOut};
 ghost use Rattle.guest_model.specs.Place.{IsPiece};
 ghost use Rattle.paged_image.specs.Pages.{entry_at, bytes_at, IsPage, LacksPage};
@@ -10,6 +10,7 @@ ghost use Rattle.paged_image.specs.Changes.{page_of};
 use super::PagedImage;
 use crate::entry::Entry;
 use crate::page::PAGE_BYTES;
+use guest_model::PAGE_SIZE;
 
 impl PagedImage {
     /// The place of a page's entry, None where the page is unmapped.
@@ -73,7 +74,7 @@ impl PagedImage {
         if n > PAGE_BYTES - offset {
             return None;
         }
-        let entry = self.entry(a / 4096)?;
+        let entry = self.entry(a / PAGE_SIZE)?;
         Some(entry.page.piece(offset, n))
     }
 
@@ -89,7 +90,7 @@ impl PagedImage {
         if n == 0 {
             return true;
         }
-        for number in a / 4096..((end - 1) / 4096) as u32 + 1 {
+        for number in a / PAGE_SIZE..((end - 1) / PAGE_SIZE as u64) as u32 + 1 {
             if !self.has_page(number) {
                 return false;
             }
@@ -100,7 +101,7 @@ impl PagedImage {
     /// Fills `into` with the bytes from `a` on, which are all on one mapped page.
     fn fill_from_page(&self, a: u32, into: &mut [u8])
         requires fits { a % 4096 + length into.old ≤ 4096 }
-        requires mapped { is_some (page_of self.now (a / 4096)) ≡ true }
+        requires mapped { IsTrue (is_some (page_of self.now (a / 4096))) }
         ensures { into.new ≡ bytes_from (content self.now) a (length into.old) }
     {
         match self.piece(a, into.len()) {

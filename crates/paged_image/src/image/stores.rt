@@ -1,6 +1,6 @@
 //! Stores: the page is made own where it is shared, and then written in place.
 
-ghost use Rattle.std.specs.Prelude.{◌≡◌, ℕ, ◌+◌, ◌/◌, ◌%◌, ◌^◌, ◌<◌, ◌≤◌, ◌==◌, ◌&&◌, true, false, nat_le, nat_lt, length, is_some, OnOk};
+ghost use Rattle.std.specs.Prelude.{◌≡◌, ℕ, ◌+◌, ◌/◌, ◌%◌, ◌^◌, ◌<◌, ◌≤◌, ◌==◌, ◌&&◌, false, nat_le, nat_lt, length, is_some, IsTrue, OnOk};
 ghost use Rattle.std.specs.Bool.{OnTrue, OnFalse};
 ghost use Rattle.guest_model.specs.ByteMap.{write};
 ghost use Rattle.paged_image.specs.Image.{content, written_of};
@@ -10,15 +10,15 @@ use super::PagedImage;
 use super::reads::rest_of_page;
 use crate::page::PAGE_BYTES;
 use basic_types::NoMemory;
-use guest_model::StoreFault;
+use guest_model::{PAGE_SIZE, StoreFault};
 
 impl PagedImage {
     /// Writes these bytes from `a` on where they are all on one page and the image owns it.
     #[inline]
     fn put_in_own_page(&mut self, a: u32, from: &[u8]) -> bool
-        ensures done { OnTrue result ((owns self.old (a / 4096) ≡ true) × (a % 4096 + length from.now ≤ 4096) × (content self.new ≡ write (content self.old) a from.now)) }
+        ensures done { OnTrue result (IsTrue (owns self.old (a / 4096)) × (a % 4096 + length from.now ≤ 4096) × (content self.new ≡ write (content self.old) a from.now)) }
         ensures declined { OnFalse result (self.new ≡ self.old) }
-        ensures why { OnFalse result (owns self.old (a / 4096) ≡ true → 4096 < a % 4096 + length from.now) }
+        ensures why { OnFalse result (IsTrue (owns self.old (a / 4096)) → 4096 < a % 4096 + length from.now) }
         ensures advances { Advances (λ _. false) self.old self.new }
         ensures written { written_of self.new ≡ written_of self.old }
     {
@@ -26,7 +26,7 @@ impl PagedImage {
         if from.len() > PAGE_BYTES - offset {
             return false;
         }
-        let Some(place) = self.place_of(a / 4096) else {
+        let Some(place) = self.place_of(a / PAGE_SIZE) else {
             return false;
         };
         let entry = &mut self.entries[place];
@@ -39,7 +39,7 @@ impl PagedImage {
     fn own_page(&mut self, number: u32) -> Result<(), NoMemory>
         ensures bytes { (p : ℕ) → page_of self.new p ≡ page_of self.old p }
         ensures advances { Advances (λ p. p == number) self.old self.new }
-        ensures own { OnOk result (is_some (page_of self.old number) ≡ true → owns self.new number ≡ true) }
+        ensures own { OnOk result (IsTrue (is_some (page_of self.old number)) → IsTrue (owns self.new number)) }
     {
         let Some(place) = self.place_of(number) else {
             return Ok(());
@@ -55,10 +55,10 @@ impl PagedImage {
 
     /// Makes the mapped pages from `first` up to `end` own.
     fn own_pages(&mut self, first: u32, end: u32) -> Result<(), NoMemory>
-        requires { end ≤ 1048576 }
+        requires { end ≤ 2 ^ 20 }
         ensures bytes { (p : ℕ) → page_of self.new p ≡ page_of self.old p }
         ensures advances { Advances (λ p. nat_le first p && nat_lt p end) self.old self.new }
-        ensures own { OnOk result ((p : ℕ) → first ≤ p → p < end → is_some (page_of self.old p) ≡ true → owns self.new p ≡ true) }
+        ensures own { OnOk result ((p : ℕ) → first ≤ p → p < end → IsTrue (is_some (page_of self.old p)) → IsTrue (owns self.new p)) }
     {
         for number in first..end {
             self.own_page(number)?;
@@ -69,7 +69,7 @@ impl PagedImage {
     /// Writes these bytes from `a` on, where the image owns all pages of the range.
     fn put_in_own_pages(&mut self, a: u32, from: &[u8])
         requires space { a + length from.now ≤ 2 ^ 32 }
-        requires own { (k : ℕ) → k < length from.now → owns self.old ((a + k) / 4096) ≡ true }
+        requires own { (k : ℕ) → k < length from.now → IsTrue (owns self.old ((a + k) / 4096)) }
         ensures content { content self.new ≡ write (content self.old) a from.now }
         ensures advances { Advances (λ _. false) self.old self.new }
     {
@@ -96,7 +96,7 @@ impl PagedImage {
             return Ok(());
         }
         let last = a + (from.len() - 1) as u32;
-        if self.own_pages(a / 4096, last / 4096 + 1).is_err() {
+        if self.own_pages(a / PAGE_SIZE, last / PAGE_SIZE + 1).is_err() {
             return Err(StoreFault::NoMemory);
         }
         self.put_in_own_pages(a, from);

@@ -57,7 +57,9 @@ fn computes_operations(rt: HostRuntime) -> Result<(), Fail> {
     for (word, a1, a2, want) in [
         (0x02C5_C533, 7, 0, 0xFFFF_FFFF), // div
         (0x02C5_C533, 0x8000_0000, 0xFFFF_FFFF, 0x8000_0000), // div
+        (0x02C5_C533, 0xFFFF_FFF9, 2, 0xFFFF_FFFD), // div
         (0x02C5_E533, 7, 0, 7), // rem
+        (0x02C5_E533, 0xFFFF_FFF9, 2, 0xFFFF_FFFF), // rem
         (0x02C5_E533, 0x8000_0000, 0xFFFF_FFFF, 0), // rem
         (0x02C5_9533, 0xFFFF_FFFF, 0xFFFF_FFFF, 0), // mulh
         (0x02C5_A533, 0xFFFF_FFFF, 0xFFFF_FFFF, 0xFFFF_FFFF), // mulhsu

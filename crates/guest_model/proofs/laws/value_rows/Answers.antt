@@ -8,6 +8,7 @@ returns c = record {
   rem_by_zero = refl;
   div_overflow = refl;
   rem_overflow = refl;
+  div_towards_zero = refl;
   mulh = refl;
   mulhsu = refl;
   mulhu = refl;
