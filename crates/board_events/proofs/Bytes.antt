@@ -1,5 +1,6 @@
 -- Texts without a certain byte
-use Rattle.std.proofs.Common.{◌≡◌, ◌≢◌, ℕ, zero, suc, ◌<◌, Bool, true, not, ◌&&◌, nat_eq, List, [], ◌∷◌, ◌++◌, length, get_or, refl, arith, tests}
+use Rattle.std.proofs.Common.{◌≡◌, ◌≢◌, ℕ, zero, suc, ◌<◌, Bool, true, false, not, ◌&&◌, nat_eq, List, [], ◌∷◌, ◌++◌, length, get_or, refl, sym, ap, ap₂, ◌∙◌, arith, tests}
+use Rattle.std.proofs.lemmas.Bool.{eq-eqb}
 
 -- no byte of the text is this one
 abbrev pub Lacks : ℕ → List ℕ → Type 0
@@ -29,3 +30,27 @@ at_cut c (x ∷ xs) ys = let h = at_cut c xs ys in (omega (arith, h.0), h.1)
 -- a text that lacks a byte can't be cut at it
 pub lacks_no_cut : (c : ℕ) (xs ys bs : List ℕ) → Lacks c bs → bs ≡ xs ++ (c ∷ ys) → ⊥
 lacks_no_cut c xs ys bs p is = let h = at_cut c xs ys in let q : Lacks c (xs ++ (c ∷ ys)) = rw (← is) p in q (length xs) h.0 h.1
+
+-- texts that are cut at their first byte c agree in both parts
+pub cut_same : (c : ℕ) (xs us ys vs : List ℕ) → Lacks c xs → Lacks c us → xs ++ (c ∷ ys) ≡ us ++ (c ∷ vs) → (xs ≡ us) × (ys ≡ vs)
+cut_same c [] [] ys vs p q h = (refl, cc)
+cut_same c [] (u ∷ us) ys vs p q h = absurd (q 0 (omega arith) (cc))
+cut_same c (x ∷ xs) [] ys vs p q h = absurd (p 0 (omega arith) (cc))
+cut_same c (x ∷ xs) (u ∷ us) ys vs p q h =
+    let first : x ≡ u = cc in
+    let rest = cut_same c xs us ys vs (λ i l. p (suc i) (omega arith)) (λ i l. q (suc i) (omega arith)) (cc) in
+    (ap₂ (λ y zs. y ∷ zs) first rest.0, rest.1)
+
+abbrev pub same_bytes : List ℕ → List ℕ → Bool
+same_bytes [] [] = true
+same_bytes [] (y ∷ ys) = false
+same_bytes (x ∷ xs) [] = false
+same_bytes (x ∷ xs) (y ∷ ys) = nat_eq x y && same_bytes xs ys
+
+same_bytes-refl : (xs : List ℕ) → same_bytes xs xs ≡ true
+same_bytes-refl [] = refl
+same_bytes-refl (x ∷ xs) = ap₂ (λ b c. b && c) (eq-eqb x x refl) (same_bytes-refl xs)
+
+-- texts that the test tells apart are two
+pub apart : (xs ys : List ℕ) → same_bytes xs ys ≡ false → xs ≡ ys → ⊥
+apart xs ys t e = let same : same_bytes xs ys ≡ true = ap (same_bytes xs) (sym e) ∙ same_bytes-refl xs in absurd (cc)

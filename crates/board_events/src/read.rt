@@ -1,6 +1,6 @@
 //! Entries read back from their text.
 
-ghost use Rattle.std.specs.Prelude.{◌≡◌, Bool, IfSome, IfNone};
+ghost use Rattle.std.specs.Prelude.{◌≡◌, ◌≢◌, Bool, IfSome, IfNone};
 ghost use Rattle.speculation.specs.declared.tracks.Name.{Name};
 ghost use Rattle.speculation.specs.declared.history.Entry.{Entry};
 ghost use Rattle.board_events.specs.Texts.{kind_text, name_text, text_of, words_of, WithOne, WithTwo, NameFits, EntryFits};
@@ -12,7 +12,7 @@ use speculation::{Entry, Name};
 /// no entry's: it is read letter by letter, with one space between words and no leading zeros.
 pub fn read_entry(line: &str) -> Option<Entry>
     ensures is { IfSome result (λ e. text_of e ≡ line.now) }
-    ensures none { IfNone result ((e : Entry) → EntryFits e → text_of e ≡ line.now → ⊥) }
+    ensures none { IfNone result ((e : Entry) → EntryFits e → text_of e ≢ line.now) }
 {
     let Some((word, rest)) = line.split_once(' ') else {
         return if line == "finish" {
@@ -30,7 +30,7 @@ pub fn read_entry(line: &str) -> Option<Entry>
 /// The entry of these two words.
 fn read_one(word: &str, argument: &str) -> Option<Entry>
     ensures is { IfSome result (λ e. words_of e ≡ WithOne word.now argument.now) }
-    ensures none { IfNone result ((e : Entry) → EntryFits e → words_of e ≡ WithOne word.now argument.now → ⊥) }
+    ensures none { IfNone result ((e : Entry) → EntryFits e → words_of e ≢ WithOne word.now argument.now) }
 {
     match word {
         "gone" => read_name(argument).map(|name| Entry::Gone { name }),
@@ -47,7 +47,7 @@ fn read_one(word: &str, argument: &str) -> Option<Entry>
 /// The entry of these three words.
 fn read_two(word: &str, first: &str, second: &str) -> Option<Entry>
     ensures is { IfSome result (λ e. words_of e ≡ WithTwo word.now first.now second.now) }
-    ensures none { IfNone result ((e : Entry) → EntryFits e → words_of e ≡ WithTwo word.now first.now second.now → ⊥) }
+    ensures none { IfNone result ((e : Entry) → EntryFits e → words_of e ≢ WithTwo word.now first.now second.now) }
 {
     match word {
         "lend" => Some(Entry::Lend {
@@ -65,7 +65,7 @@ fn read_two(word: &str, first: &str, second: &str) -> Option<Entry>
 /// The name that this text writes.
 fn read_name(text: &str) -> Option<Name>
     ensures is { IfSome result (λ n. name_text n ≡ text.now) }
-    ensures none { IfNone result ((n : Name) → NameFits n → name_text n ≡ text.now → ⊥) }
+    ensures none { IfNone result ((n : Name) → NameFits n → name_text n ≢ text.now) }
 {
     let (generation, rest) = text.split_once('.')?;
     let (region, kind) = rest.split_once('.')?;
@@ -79,7 +79,7 @@ fn read_name(text: &str) -> Option<Name>
 /// Whether this letter is a normal track's, and not a lead's.
 fn read_kind(letter: &str) -> Option<bool>
     ensures is { IfSome result (λ normal. kind_text normal ≡ letter.now) }
-    ensures none { IfNone result ((normal : Bool) → kind_text normal ≡ letter.now → ⊥) }
+    ensures none { IfNone result ((normal : Bool) → kind_text normal ≢ letter.now) }
 {
     match letter {
         "n" => Some(true),

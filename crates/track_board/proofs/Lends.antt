@@ -344,7 +344,7 @@ module _ (i : Inside) (k : GuestCore) (n : Name) (t : CoreTrack MachineState) (h
     pub lent-view : (v : Posted) → view_of_board i ≡ v → view_of_board (record i { regions = j.regions; lead = j.lead; loans = j.loans; entries = j.entries }) ≡ posted v (E.Lend seat n)
     lent-view v seen = pushed-view i j (E.Lend seat n) l.pushed ∙ ap (λ (u : Posted). posted u (E.Lend seat n)) seen
 
-    pub lent-is : (v : Posted) (loan : Loan) → view_of_board i ≡ v → lendable (rv32 i.input.value) i.settings k n ≡ true → loan.name ≡ n → loan.track ≡ x → loan.input.value ≡ i.input.value → (view_of x).own ≤ (view_of x).budget
+    pub lent-is : (v : Posted) (loan : Loan) → view_of_board i ≡ v → lendable (rv32 i.input.value) i.settings k n ≡ true → loan.name ≡ n → loan.track ≡ x → loan.input ≡ i.input.value → (view_of x).own ≤ (view_of x).budget
         → IsLent v (view_of_board (record i { regions = j.regions; lead = j.lead; loans = j.loans; entries = j.entries })) seat loan
     lent-is v loan seen may name track input within =
         subst (λ (m : Name). ((view : Posted) → view_of_board i ≡ view → IsLent view w seat (record loan { name = m }))) (sym name) (λ view is. here view is) v seen

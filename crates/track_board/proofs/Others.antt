@@ -127,8 +127,8 @@ stands-on input b x y t n stands count ran =
     record { here = refl; is = ran.is ∙ ap₂ (λ (u : CoreTrack MachineState) k. run_on (rv32 input) u k) stands.is all; runs = ran.runs; budget = ran.budget ∙ stands.budget }
 
 -- a loan that is out may come home once it was run by one slice
-pub run-home : (v : Posted) (seat : ℕ) (loan ran : Loan) (n : ℕ) → IsOut v seat loan → ran.name ≡ loan.name → n ≡ run_length loan.input.value (view_of loan.track) most_slice
-    → RanOn loan.input.value (view_of loan.track) (view_of ran.track) n → MayComeHome v seat ran
+pub run-home : (v : Posted) (seat : ℕ) (loan ran : Loan) (n : ℕ) → IsOut v seat loan → ran.name ≡ loan.name → n ≡ run_length loan.input (view_of loan.track) most_slice
+    → RanOn loan.input (view_of loan.track) (view_of ran.track) n → MayComeHome v seat ran
 run-home v seat loan ran n out name count run = record {
   lent = subst (λ (k : Name). IsLoanOf v seat k) (sym name) out.lent;
   ran = λ l found undropped t live.

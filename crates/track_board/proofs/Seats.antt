@@ -83,7 +83,7 @@ all-same v xs ys all items = subst (λ (zs : List (Option Loan)). AllMayComeHome
 -- ---- lending
 
 -- what went out runs over the board's input
-pub lent-runs : (v w : Posted) (seat : ℕ) (loan : Loan) → LendIs v w seat (Some loan) → RunsOver loan.input.value (view_of loan.track)
+pub lent-runs : (v w : Posted) (seat : ℕ) (loan : Loan) → LendIs v w seat (Some loan) → RunsOver loan.input (view_of loan.track)
 lent-runs v w seat loan h = (lent-out v w seat loan h.0).runs
 
 pub others-lent : (v w : Posted) (seat : ℕ) (o : Option Loan) → LendIs v w seat o → (other : ℕ) → seat ≢ other → OthersAct other v w
@@ -91,6 +91,6 @@ others-lent v w seat None h other differ = others-none other v w h.0
 others-lent v w seat (Some loan) h other differ = others-lend other seat v w loan differ h.0
 
 -- what was lent and run by one slice may come home
-pub lent-home : (v w : Posted) (seat : ℕ) (loan ran : Loan) (n : ℕ) → LendIs v w seat (Some loan) → ran.name ≡ loan.name → n ≡ run_length loan.input.value (view_of loan.track) most_slice
-    → RanOn loan.input.value (view_of loan.track) (view_of ran.track) n → MayComeHome w seat ran
+pub lent-home : (v w : Posted) (seat : ℕ) (loan ran : Loan) (n : ℕ) → LendIs v w seat (Some loan) → ran.name ≡ loan.name → n ≡ run_length loan.input (view_of loan.track) most_slice
+    → RanOn loan.input (view_of loan.track) (view_of ran.track) n → MayComeHome w seat ran
 lent-home v w seat loan ran n h name count run = run-home w seat loan ran n (lent-out v w seat loan h.0) name count run

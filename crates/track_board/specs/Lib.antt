@@ -1,5 +1,6 @@
 pub mod Value
 pub mod Parts
+pub mod LoanView
 pub mod Loans
 pub mod Settles
 pub mod Invariant

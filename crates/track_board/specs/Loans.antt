@@ -42,7 +42,7 @@ pub record IsLent (v w : Posted) (seat : ℕ) (loan : Loan) : Type 0 where
   pub live : CoreTrack MachineState
   pub found : find_track (core_of v) loan.name ≡ Some live
   pub track : TrackStands v.input v.settings.budget loan.track true live
-  pub input : loan.input.value ≡ v.input
+  pub input : loan.input ≡ v.input
   pub own : (view_of loan.track).own ≤ v.settings.budget
   pub loan_of : IsLoanOf w seat loan.name
   pub still : find_track (core_of w) loan.name ≡ Some live

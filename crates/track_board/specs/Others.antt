@@ -33,8 +33,8 @@ HasLive v n x =
 -- the loan is out with this seat, as it was lent
 pub record IsOut (v : Posted) (seat : ℕ) (loan : Loan) : Type 0 where
   pub lent : IsLoanOf v seat loan.name
-  pub input : loan.input.value ≡ v.input
-  pub runs : RunsOver loan.input.value (view_of loan.track)
+  pub input : loan.input ≡ v.input
+  pub runs : RunsOver loan.input (view_of loan.track)
   pub live : HasLive v loan.name loan.track
 
 -- the loan is out with this seat, and was run by one slice: it may come home

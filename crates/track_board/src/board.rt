@@ -63,7 +63,7 @@ impl Model for Board {
 }
 
 impl Board {
-    ghost use Rattle.std.specs.Prelude.{◌≡◌, ◌≤◌, [], true, if◌then◌else◌, IfOk};
+    ghost use Rattle.std.specs.Prelude.{◌≡◌, ◌≤◌, [], IsTrue, if◌then◌else◌, IfOk};
     ghost use Rattle.speculation.specs.declared.history.Entry.TheVariants as E;
     ghost use Rattle.speculation.specs.Core.{over};
     ghost use Rattle.guest_model.specs.Image.{start_of};
@@ -125,7 +125,7 @@ impl Board {
     /// Ends the run in the name of this seat. A board that is over stays as it is. It takes no memory.
     pub fn halt(&mut self, seat: u64)
         ensures entry { self.new ≡ (if over (core_of self.old) then self.old else posted self.old (E.Halt seat)) }
-        ensures over { over (core_of self.new) ≡ true }
+        ensures over { IsTrue (over (core_of self.new)) }
         ensures known { IsKnown self.new }
     {
         if self.over() {

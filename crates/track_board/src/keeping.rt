@@ -1,6 +1,6 @@
 //! Keep: the oldest region's fast version takes the place of its original.
 
-ghost use Rattle.std.specs.Prelude.{◌≡◌, true, Some, MatchResult, length};
+ghost use Rattle.std.specs.Prelude.{◌≡◌, IsTrue, Some, MatchResult, length};
 ghost use Rattle.speculation.specs.declared.history.Entry.TheVariants as E;
 ghost use Rattle.region_ledger.specs.Ledger.{is_kept, judged, ledger_row};
 ghost use Rattle.track_state.specs.Views.{view_of};
@@ -26,7 +26,7 @@ impl Board {
     /// `NoMemory`, and then the board is as before.
     pub(crate) fn keep(&mut self, judgement: Judgement) -> Result<(), NoMemory>
         requires due { IsDue (Some (Due.Judge judgement)) (due_of self.old) }
-        requires kept { is_kept judgement.verdict ≡ true }
+        requires kept { IsTrue (is_kept judgement.verdict) }
         ensures { MatchResult result (λ _. self.new ≡ posted self.old (E.Keep (length (core_of self.old).rows))) (λ _. self.new ≡ self.old) }
     {
         make_room(

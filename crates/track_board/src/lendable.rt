@@ -5,11 +5,10 @@ ghost use Rattle.track_state.specs.Views.{view_of};
 ghost use Rattle.track_board.specs.LendTests.{last_region, numbered, may_run, is_below, is_below_last, is_wanted, may_go, found_may_go, named_may_go, first_to_go};
 
 use crate::judging::is_at_boundary;
-use crate::ready::MOST_HELD;
 use crate::region::Region;
 use crate::slot::Slot;
 use seniority_queue::{Key, Queue};
-use speculation::{Kind, Name};
+use speculation::{Kind, MOST_HELD, Name};
 use track_state::Track;
 
 /// Whether the track of this name, which is of the present generation, is at home and may go out. `last` is the number of the

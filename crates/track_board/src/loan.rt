@@ -3,14 +3,14 @@
 use basic_types::{Bytes, NoMemory};
 use region_ledger::Finished;
 use seniority_queue::Key;
-use speculation::Name;
+use speculation::{MOST_SLICE, Name};
+use std::marker::Model;
 use std::sync::Arc;
 use track_state::Track;
 
-/// The most instructions of one slice.
-const SLICE: u64 = 65_536;
-
 /// A track that was lent, with the input that it runs over.
+///
+/// Contracts see name, track and input.
 #[derive(Drop)]
 pub struct Loan {
     pub(crate) name: Name,
@@ -40,11 +40,19 @@ pub enum Back {
     Over,
 }
 
+impl Model for Loan {
+    ghost use Rattle.track_board.specs.LoanView.{LoanView};
+
+    ghost Value = { LoanView };
+
+    ghost view = { λ l. record { name = l.name; track = l.track; input = l.input.value } };
+}
+
 impl Loan {
-    ghost use Rattle.std.specs.Prelude.{◌≡◌, ℕ, MatchResult};
+    ghost use Rattle.std.specs.Prelude.{◌≡◌, MatchResult};
     ghost use Rattle.speculation.specs.Core.{most_slice};
     ghost use Rattle.track_state.specs.Views.{view_of};
-    ghost use Rattle.track_state.specs.Runs.{RunsOver, RanOn, run_length};
+    ghost use Rattle.track_state.specs.Runs.{RunsOver, RanOn, RanShort, run_length};
 
     /// The name of the track that was lent.
     pub fn name(&self) -> Name
@@ -63,17 +71,17 @@ impl Loan {
     /// many it took.
     ///
     /// # Errors
-    /// `NoMemory` where a page or a piece of output found no room; the track then stands after some whole instructions and may be
-    /// run again.
+    /// `NoMemory` where a page or a piece of output found no room; the track then stands after some whole instructions, fewer
+    /// than the slice has, and may be run again.
     #[tactic(auto, unfolding(speculation::specs::Core::most_slice))]
     pub fn run(&mut self) -> Result<u64, NoMemory>
-        requires { RunsOver self.old.input.value (view_of self.old.track) }
+        requires { RunsOver self.old.input (view_of self.old.track) }
         ensures name { self.new.name ≡ self.old.name }
         ensures input { self.new.input ≡ self.old.input }
         ensures ran { MatchResult result
-            (λ n. (n ≡ run_length self.old.input.value (view_of self.old.track) most_slice) × RanOn self.old.input.value (view_of self.old.track) (view_of self.new.track) n)
-            (λ _. (n : ℕ) × RanOn self.old.input.value (view_of self.old.track) (view_of self.new.track) n) }
+            (λ n. (n ≡ run_length self.old.input (view_of self.old.track) most_slice) × RanOn self.old.input (view_of self.old.track) (view_of self.new.track) n)
+            (λ _. RanShort self.old.input (view_of self.old.track) (view_of self.new.track) most_slice) }
     {
-        self.track.run(self.input.as_slice(), SLICE)
+        self.track.run(self.input.as_slice(), MOST_SLICE)
     }
 }

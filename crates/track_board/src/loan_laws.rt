@@ -18,8 +18,8 @@ ghost use Rattle.track_board.specs.Others.{OthersAct, IsOut, MayComeHome};
 pub fn loans_come_home()
     ensures out { (v w : Posted) (seat : ℕ) (loan : Loan) → IsLent v w seat loan → IsOut w seat loan }
     ensures home { (v : Posted) (seat : ℕ) (loan ran : Loan) (n : ℕ) → IsOut v seat loan → ran.name ≡ loan.name →
-        n ≡ run_length loan.input.value (view_of loan.track) most_slice →
-        RanOn loan.input.value (view_of loan.track) (view_of ran.track) n → MayComeHome v seat ran }
+        n ≡ run_length loan.input (view_of loan.track) most_slice →
+        RanOn loan.input (view_of loan.track) (view_of ran.track) n → MayComeHome v seat ran }
 {}
 
 /// While only others act a loan stays out with its seat, and what may come home still may: either no discard drops the track,

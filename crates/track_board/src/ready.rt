@@ -6,10 +6,8 @@ ghost use Rattle.track_board.specs.Parts.{ready_marks};
 
 use basic_types::NoMemory;
 use held_output::{Chunks, Held};
+use speculation::MOST_HELD;
 use std::alloc::Global;
-
-/// As many bytes as a track may hold: with so many it is not lent, and no region opens while so many are ready.
-pub(crate) const MOST_HELD: u64 = 1_048_576;
 
 /// Pieces of which those that are numbered at most `limit` are verified.
 #[derive(Drop)]

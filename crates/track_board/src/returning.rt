@@ -1,6 +1,6 @@
 //! What comes home, and what doesn't.
 
-ghost use Rattle.std.specs.Prelude.{◌≡◌, ◌⊎◌, Some, true, false};
+ghost use Rattle.std.specs.Prelude.{◌≡◌, ◌⊎◌, Some, false, IsTrue};
 ghost use Rattle.speculation.specs.declared.history.Entry.TheVariants as E;
 ghost use Rattle.speculation.specs.Core.{over};
 ghost use Rattle.track_board.specs.Loans.{halted_by};
@@ -56,10 +56,10 @@ impl Board {
     pub fn give_up(&mut self, loan: Loan)
         requires lent { IsLoan self.old loan.name }
         ensures entry { self.new ≡ posted self.old (E.Gone loan.name) }
-        ensures over { (over (core_of self.new) ≡ true) ⊎ WasDropped self.old loan.name }
+        ensures over { IsTrue (over (core_of self.new)) ⊎ WasDropped self.old loan.name }
         ensures known { IsKnown self.new }
     {
-        self.end_loan(loan.name);
+        self.end_loan(loan.name());
     }
 
     /// The row of the discard that has dropped the track that was lent under this name.
@@ -74,7 +74,7 @@ impl Board {
     fn end_loan(&mut self, name: Name)
         requires { IsLoan self.old name }
         ensures entry { self.new ≡ posted self.old (E.Gone name) }
-        ensures over { (over (core_of self.new) ≡ true) ⊎ WasDropped self.old name }
+        ensures over { IsTrue (over (core_of self.new)) ⊎ WasDropped self.old name }
         ensures known { IsKnown self.new }
     {
         let lent = take_lent(&mut self.loans, name);
@@ -85,7 +85,7 @@ impl Board {
     /// Puts an original back in its region.
     fn take_normal(&mut self, name: Name, track: Track)
         requires lent { IsLiveLoan self.old name }
-        requires normal { name.normal ≡ true }
+        requires normal { IsTrue name.normal }
         requires live { over (core_of self.old) ≡ false }
         requires ran { HasRunOn self.old name track }
         ensures entry { IsTaken self.old self.new name }

@@ -11,7 +11,7 @@ use Rattle.track_state.specs.Views.{TrackView}
 use Rattle.track_state.specs.Runs.{RunsOver, run_length, RanOn}
 use Rattle.track_state.specs.Progress.{Pauses, IsProgress}
 use Rattle.track_state.specs.declared.progress.Progress.{Progress}
-use Rattle.track_state.proofs.OnRuns.{Starts, rests-full, rests-end, length-rests, ran-length}
+use Rattle.track_state.proofs.OnRuns.{Starts, rests-full, rests-end, length-rests, ran-length, ran-short}
 use Rattle.track_state.proofs.OnStarts.{starts-here, starts-opened, ran-none, now-at}
 
 -- the state behind the opening call, if it was answered
@@ -43,3 +43,8 @@ module _ (input : List ℕ) (t : TrackView) where
       → limit ≡ min k (t.budget - t.own) → t.own ≤ t.budget → p.refused ≡ false → n + p.taken ≡ run_length input t k
   length-by limit n s u held p k starts ran is fits whole =
       ran-length input t limit n s u held p starts ran k is fits (subst (λ b. Pauses input t.kind s (t.own + n) t.held (limit - n) p.taken b) whole ran.pause)
+
+  pub short-by : (limit n : ℕ) (s u : MachineState) (held : List Piece) (p : Progress) (k : ℕ) → (starts : Starts input t limit n s) → (ran : IsProgress input t.kind s (t.own + n) t.held (limit - n) u held p)
+      → limit ≡ min k (t.budget - t.own) → t.own ≤ t.budget → p.refused ≡ true → n + p.taken < run_length input t k
+  short-by limit n s u held p k starts ran is fits refused =
+      ran-short input t limit n s u held p starts ran k is fits (subst (λ b. Pauses input t.kind s (t.own + n) t.held (limit - n) p.taken b) refused ran.pause)

@@ -4,11 +4,11 @@ use Rattle.std.proofs.lemmas.Bool.{cases_lt, eq-eqb, ne_eqb, lt-ltb, or_parts}
 use Rattle.speculation.specs.declared.tracks.Kind.{Kind}
 use Rattle.speculation.specs.declared.tracks.Kind.TheVariants.{Normal, Fast, Segment}
 use Rattle.speculation.specs.Run.{Point, Piece, fresh, go, pieces}
-use Rattle.speculation.specs.Tracks.{point, meets}
+use Rattle.speculation.specs.Tracks.{point, meets, first_from}
 use Rattle.speculation.specs.Core.{held_size, most_held}
 use Rattle.speculation.specs.Events.{new_pieces}
 use Rattle.speculation.proofs.Runs.{pieces-add}
-use Rattle.speculation_law.proofs.Least.{first-some, first-none}
+use Rattle.speculation_law.proofs.Least.{first-some, first-none, first-at}
 use Rattle.guest_model.specs.MachineState.{MachineState}
 use Rattle.guest_model.specs.Step.{at_end}
 use Rattle.guest_model.specs.Rv32.{rv32}
@@ -139,6 +139,14 @@ module _ (input : List ℕ) where
   unfolding run_length
   length-whole t k before = sym (ap (λ o. unwrap_or o k) (first-none (rests_after input t) 0 k (λ i low less. before i (omega arith))))
 
+  -- it doesn't rest up to n
+  pub length-more : (t : TrackView) (k n : ℕ) → n < k → ((i : ℕ) → i ≤ n → rests_after input t i ≡ false) → n < run_length input t k
+  unfolding run_length
+  length-more t k n less before = elim (cases_lt n (unwrap_or (first_from (rests_after input t) 0 k) k)) [
+    | inl more ↦ more
+    | inr low ↦ absurd (let rests = first-at (rests_after input t) k (omega arith) in let goes = before _ low in cc)
+  ]
+
   -- ---- a track before a part of its run
 
   -- The run goes on from state s with n0 instructions behind the track's: none, or the opening call.
@@ -164,14 +172,17 @@ module _ (input : List ℕ) where
     rests-later : (j : ℕ) → n0 + j ≤ limit → rests_after input t (n0 + j) ≡ rests_of t.kind t.budget (t.own + (n0 + j)) (go (rv32 input) (fresh s) j) (t.held ++ kept_pieces input t.kind s (t.own + n0) j)
     rests-later j le = rests-at t (n0 + j) (go (rv32 input) (fresh s) j) (t.held ++ kept_pieces input t.kind s (t.own + n0) j) (starts.points j le) (ap (λ ps. t.held ++ ps) (starts.pieces j))
 
+    goes-on : t.own + limit ≤ t.budget → (j : ℕ) → n0 + j < limit → is_over input t.kind s (t.own + n0) t.held j ≡ false → rests_after input t (n0 + j) ≡ false
+    goes-on fits j less going =
+        rests-later j (omega arith)
+        ∙ rests-not t.kind t.budget (t.own + (n0 + j)) (go (rv32 input) (fresh s) j) (t.held ++ kept_pieces input t.kind s (t.own + n0) j) going (omega arith)
+
     pub ran-before : t.own + limit ≤ t.budget → (i : ℕ) → i < n0 + p.taken → rests_after input t i ≡ false
     ran-before fits i less = elim (cases_lt i n0) [
       | inl low ↦ starts.before i low
       | inr high ↦ (let j = i - n0 in
           let whole : n0 + j ≡ i = omega arith in
-          let le : n0 + j ≤ limit = omega (arith, within) in
-          subst (λ k. rests_after input t k ≡ false) whole
-          (rests-later j le ∙ rests-not t.kind t.budget (t.own + (n0 + j)) (go (rv32 input) (fresh s) j) (t.held ++ kept_pieces input t.kind s (t.own + n0) j) (ran.going j (omega arith)) (omega (arith, within))))
+          subst (λ k. rests_after input t k ≡ false) whole (goes-on fits j (omega (arith, within)) (ran.going j (omega arith))))
     ]
 
     ran-over : is_over input t.kind s (t.own + n0) t.held p.taken ≡ true → rests_after input t (n0 + p.taken) ≡ true
@@ -192,3 +203,12 @@ module _ (input : List ℕ) where
     pub ran-length : (k : ℕ) → limit ≡ min k (t.budget - t.own) → t.own ≤ t.budget → (p.taken ≡ limit - n0) ⊎ (is_over input t.kind s (t.own + n0) t.held p.taken ≡ true) → n0 + p.taken ≡ run_length input t k
     ran-length k is fits (inl last) = ran-limit k is fits (omega (arith, starts.count)) (ran-before (omega arith))
     ran-length k is fits (inr over) = length-rests t k (n0 + p.taken) (omega (arith, within)) (ran-over over) (ran-before (omega arith))
+
+    -- for want of memory it stopped where it doesn't rest
+    pub ran-short : (k : ℕ) → limit ≡ min k (t.budget - t.own) → t.own ≤ t.budget → (p.taken < limit - n0) × (is_over input t.kind s (t.own + n0) t.held p.taken ≡ false) → n0 + p.taken < run_length input t k
+    ran-short k is fits h =
+        length-more t k (n0 + p.taken) (omega (arith, h.0)) (λ i le. elim (cases_lt i (n0 + p.taken)) [
+          | inl before ↦ ran-before (omega arith) i before
+          | inr last ↦ (let same : n0 + p.taken ≡ i = omega arith in
+              subst (λ n. rests_after input t n ≡ false) same (goes-on (omega arith) p.taken (omega (arith, h.0)) h.1))
+        ])

@@ -1,5 +1,5 @@
 -- Tracks that run over an input
-use Rattle.std.specs.Prelude.{◌≡◌, ℕ, suc, ◌≤◌, Bool, ◌||◌, List, ◌++◌, length, Some, None, is_some, unwrap_or, nat_eq, nat_le}
+use Rattle.std.specs.Prelude.{◌≡◌, ℕ, suc, ◌<◌, ◌≤◌, Bool, ◌||◌, List, ◌++◌, length, Some, None, is_some, unwrap_or, nat_eq, nat_le}
 use Rattle.speculation.specs.Run.{Piece}
 use Rattle.speculation.specs.Tracks.{point, first_from}
 use Rattle.speculation.specs.Core.{Track as CoreTrack, track_point, at_boundary, held_size, most_held}
@@ -43,3 +43,9 @@ pub record RanOn (input : List ℕ) (x y : TrackView) (n : ℕ) : Type 0 where
   pub is : core_track y ≡ run_on (rv32 input) (core_track x) n
   pub runs : RunsOver input y
   pub budget : y.budget ≡ x.budget
+
+-- y is x, run on by whole instructions, fewer than a run of at most k has
+pub record RanShort (input : List ℕ) (x y : TrackView) (k : ℕ) : Type 0 where
+  pub taken : ℕ
+  pub short : taken < run_length input x k
+  pub ran : RanOn input x y taken

@@ -17,16 +17,10 @@ use crate::memo::Memo;
 use crate::quiet::run_quietly;
 use crate::track::TrackState;
 use basic_types::NoMemory;
-use guest_model::{End, Regs};
+use guest_model::{A0, End, Regs};
 use held_output::Held;
 use rv32_step::{END_DUAL_TRACK, FAST_TRACK, Stepped, at_call, step};
-use speculation::Kind;
-
-/// A track that holds so many bytes is run no further.
-pub const MOST_HELD: u64 = 1_048_576;
-
-/// The register a0.
-const A0: u8 = 10;
+use speculation::{Kind, MOST_HELD};
 
 /// How far a run went.
 #[derive(Clone, Copy)]

@@ -15,7 +15,7 @@ ghost use Rattle.track_state.specs.Quiet.{IsQuiet, QuietSteps, QuietRegisters, s
 
 use crate::memo::Memo;
 use crate::track::TrackState;
-use guest_model::{Instr, Regs};
+use guest_model::{Instr, PAGE_SIZE, Regs};
 use paged_image::PagedImage;
 use rv32_step::{RegisterStep, Stepped, step_decoded, step_other};
 
@@ -87,7 +87,7 @@ fn run_registers(state: &mut TrackState, memo: &mut Memo, limit: u64) -> OnPage
     ensures place { state.new.place ≡ state.old.place }
     ensures memory { state.new.memory ≡ state.old.memory }
 {
-    let number = state.regs.pc() / 4096;
+    let number = state.regs.pc() / PAGE_SIZE;
     match state.memory.page(number) {
         Some(page) => run_on_page(number, page, &mut state.regs, &state.memory, memo, limit),
         None => OnPage {
@@ -143,8 +143,8 @@ fn word_on_page(number: u32, page: &[u8], pc: u32) -> Option<u32>
     requires count { length page.now ≡ 4096 }
     ensures { IfSome result (λ word. (m : ByteMap) → IsPage m number page.now → load w32 m pc ≡ Some word) }
 {
-    let offset = pc.wrapping_sub(number * 4096) as usize;
-    if offset > 4092 {
+    let offset = pc.wrapping_sub(number * PAGE_SIZE) as usize;
+    if offset > PAGE_SIZE as usize - 4 {
         return None;
     }
     Some(u32::from_le_bytes([

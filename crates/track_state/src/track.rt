@@ -43,7 +43,7 @@ pub struct Track {
 }
 
 impl Track {
-    ghost use Rattle.std.specs.Prelude.{◌≡◌, ℕ, ◌≤◌, List, length, IfOk};
+    ghost use Rattle.std.specs.Prelude.{◌≡◌, ℕ, ◌≤◌, List, length, IfOk, OnErr};
     ghost use Rattle.speculation.specs.Events.{left_over};
     ghost use Rattle.guest_model.specs.Registers.{IsRegFile};
     ghost use Rattle.held_output.specs.Held.{taken_upto, IsHeld};
@@ -153,6 +153,7 @@ impl Track {
     pub fn take(&mut self, limit: u64) -> Result<Held, NoMemory>
         ensures taken { IfOk result (λ held. held ≡ taken_upto limit (view_of self.old).held) }
         ensures left { IfOk result (λ held. view_of self.new ≡ record (view_of self.old) { held = left_over limit (view_of self.old).held }) }
+        ensures same { OnErr result (view_of self.new ≡ view_of self.old) }
         ensures state { state_of self.new ≡ state_of self.old }
     {
         self.held.cut(limit)

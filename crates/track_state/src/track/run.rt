@@ -3,32 +3,29 @@
 ghost use Rattle.track_state.specs.Opening.{Opens};
 
 use super::Track;
-use crate::progress::{MOST_HELD, advance};
+use crate::progress::advance;
 use basic_types::NoMemory;
-use guest_model::Regs;
+use guest_model::{A0, Regs};
 use rv32_law::states::runs_keep_states;
-use speculation::Kind;
-
-/// The register a0.
-const A0: u8 = 10;
+use speculation::{Kind, MOST_HELD};
 
 impl Track {
-    ghost use Rattle.std.specs.Prelude.{◌≡◌, ℕ, MatchResult};
+    ghost use Rattle.std.specs.Prelude.{◌≡◌, MatchResult};
     ghost use Rattle.track_state.specs.Views.{view_of};
-    ghost use Rattle.track_state.specs.Runs.{RunsOver, run_length, RanOn};
+    ghost use Rattle.track_state.specs.Runs.{RunsOver, run_length, RanOn, RanShort};
 
     /// Runs the track on until it has a stop, or holds 1,048,576 bytes or more, or k instructions were taken, and answers
     /// how many were. It answers fewer than k exactly where one of the first two comes first.
     ///
     /// # Errors
-    /// `NoMemory` where there is no room for a page or for output. The track then stands after some whole instructions and
-    /// may be run again.
+    /// `NoMemory` where there is no room for a page or for output. The track then stands after some whole instructions,
+    /// fewer than it would have taken with room, and may be run again.
     #[tactic(auto, unfolding(crate::specs::Views::view_of))]
     pub fn run(&mut self, input: &[u8], k: u64) -> Result<u64, NoMemory>
         requires runs { RunsOver input.now (view_of self.old) }
         ensures { MatchResult result
             (λ n. (n ≡ run_length input.now (view_of self.old) k) × RanOn input.now (view_of self.old) (view_of self.new) n)
-            (λ _. (n : ℕ) × RanOn input.now (view_of self.old) (view_of self.new) n) }
+            (λ _. RanShort input.now (view_of self.old) (view_of self.new) k) }
     {
         if self.end.is_some() {
             return Ok(0);

@@ -11,7 +11,7 @@ use Rattle.track_state.specs.Views.{view_of}
 use Rattle.track_state.proofs.OnPages.{KeepsStart-more}
 use Rattle.track_state.proofs.OnRuns.{Starts, ran-at}
 use Rattle.track_state.proofs.OnStarts.{held-number, ran-on}
-use Rattle.track_state.proofs.OnRunCalls.{with_regs, starts-by, length-by, rests-ended, rests-many}
+use Rattle.track_state.proofs.OnRunCalls.{with_regs, starts-by, length-by, short-by, rests-ended, rests-many}
 use Rattle.track_state.proofs.track.Track.run.Goals as goal
 
 pub returns-then-is_some : goal.returns-then-is_some
@@ -66,7 +66,11 @@ returns-then-progress c =
     let held = c.advance-progress.new.held in
     let p = c.advance-progress.result in
     let ran = c.advance-progress.ensures.progress in
-    (n + p.taken, ran-on c.args.input.now t limit n s u held p starts ran c.requires.runs c.advance-progress.ensures.place)
+    record {
+      taken = n + p.taken;
+      short = short-by c.args.input.now t limit n s u held p c.args.k starts ran c.min-limit.ensures c.args.self.now.within c.if-progress.true;
+      ran = ran-on c.args.input.now t limit n s u held p starts ran c.requires.runs c.advance-progress.ensures.place;
+    }
 
 pub returns : goal.returns
 unfolding view_of most_held
