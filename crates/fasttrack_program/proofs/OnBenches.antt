@@ -13,7 +13,7 @@ use Rattle.rv32_asm.specs.Constant.{lower_part}
 use Rattle.rv32_asm.specs.Encoding.{encoding}
 use Rattle.rv32_asm.specs.Generated.{addi, constant, call, opening, original, shortcut, endless, closing, versions, turns, kind, region, all_regions, prologue, epilogue, generated}
 use Rattle.rv32_asm.proofs.Regions.{HasPieces, HasRegions, no_regions, more_regions, around_loads}
-use Rattle.fasttrack_program.specs.Plan.{bench_image, bench_regions, refused_file}
+use Rattle.fasttrack_program.specs.Plan.{bench_image, bench_regions, unless_bad}
 
 -- ---- the words of the instructions fit
 
@@ -108,7 +108,7 @@ length-regions number n = let got = regions_of number n in subst (λ (ws : List 
 
 -- ---- the image
 
-is_ok : (r : Result Image Fault) (P : Image → Type 0) → IsOkAnd r P → (i : Image) × (refused_file r ≡ Ok i)
+is_ok : (r : Result Image Fault) (P : Image → Type 0) → IsOkAnd r P → (i : Image) × (unless_bad r ≡ Ok i)
 is_ok (Ok i) P h = (i, refl)
 is_ok (Err f) P h = absurd h
 

@@ -1,28 +1,27 @@
 -- Where no count rose, a call did all that its plan says
-use Rattle.std.proofs.Common.{◌≡◌, ℕ, ◌≤◌, Bool, true, false, List, [], ◌++◌, length, Ok, Option, Some, None, ◌⊎◌, inl, inr, refl, sym, ap, ◌∙◌, subst, arith}
-use Rattle.std.specs.Prelude.{unwrap_or, if◌then◌else◌}
+use Rattle.std.proofs.Common.{◌≡◌, ◌≢◌, ℕ, ◌≤◌, Bool, true, false, List, [], ◌++◌, length, Ok, Option, Some, None, ◌⊎◌, inl, inr, refl, sym, ap, ◌∙◌, subst, arith}
+use Rattle.std.specs.Prelude.{unwrap_or, IsTrue, if◌then◌else◌}
 use Rattle.std.specs.Io.KnownBytes.{Appends}
 use Rattle.std.proofs.KnownBytes.{Appends-nil}
 use Rattle.speculation.specs.declared.history.Entry.{Entry}
 use Rattle.speculation.specs.Run.{Mark, marked}
 use Rattle.host_io.specs.Faults.{Rose, StayedCalm}
-use Rattle.elf32_loader.specs.declared.fault.ImageFault.{ImageFault}
-use Rattle.guest_model.specs.Image.{Image, image, program_alone}
-use Rattle.guest_model.specs.declared.end.End.{End}
-use Rattle.guest_model.specs.declared.end.End.TheVariants as E
-use Rattle.guest_streams.specs.GuestStreams.{Sinks, Gets, GetsAll, FailsAt, end_of}
+use Rattle.host_io.specs.declared.files.Files.{Ghosts as FilesRow}
+use Rattle.host_io.specs.declared.source.Source.{Ghosts as SourceRow}
+use Rattle.guest_model.specs.Image.{Image, image}
+use Rattle.guest_streams.specs.GuestStreams.{Sinks, Gets, GetsAll, FailsAt}
+use Rattle.guest_streams.proofs.OnStreams.{GetsAll-nothing}
 use Rattle.program_words.specs.CommandLine.{Request}
-use Rattle.program_words.specs.declared.request.Task.{Task}
-use Rattle.program_words.specs.declared.request.Task.TheVariants.{Alone, Run, Trial, Bench}
-use Rattle.fasttrack_program.specs.declared.options.Options.{Options}
+use Rattle.program_words.specs.declared.request.Task.TheVariants.{Bench}
+use Rattle.fasttrack_program.specs.declared.served.Served.{Served}
 use Rattle.fasttrack_program.specs.declared.answer.Answer.{Answer}
-use Rattle.fasttrack_program.specs.declared.answer.Answer.TheVariants.{Exited, Trapped, Spent, Shown, Usage, ReadFault, ImageTooLong, BadImage, InputTooLong, WriteFault, NoMemory}
-use Rattle.fasttrack_program.specs.AnswerLine.{line_of, unless_told, Tells}
-use Rattle.fasttrack_program.specs.Completeness.{IsTaskDone, whole_answer, line_text, IsDoneWhole, DoesPlan, IsComplete}
-use Rattle.fasttrack_program.specs.Plan.{Plan, Refusal, Refused, Runs, BadWords, LongImage, BadFile, LongInput, image_limit, input_limit, options_of, plan}
-use Rattle.fasttrack_program.specs.Reading.{IsTold}
-use Rattle.fasttrack_program.specs.Serving.{answer_of}
-use Rattle.fasttrack_program.specs.TopCall.{HasHistoryOf, is_bench, task_output, EndsAsGuest, EndsWithReport, HasFault, Serves, ReadFails, IsAnswered}
+use Rattle.fasttrack_program.specs.declared.answer.Answer.TheVariants.{ReadFault, NoMemory}
+use Rattle.fasttrack_program.specs.AnswerLine.{line_of, without_line, IsSaidFor, WritesLineOf, Concludes}
+use Rattle.fasttrack_program.specs.Completeness.{line_text, DoesAll, FollowsPlan, IsComplete}
+use Rattle.fasttrack_program.specs.Plan.{Plan, Refused, Does, is_file, image_limit, input_limit, options_of, plan}
+use Rattle.fasttrack_program.specs.Promise.{Given, Promise, promise_of, IsHistory}
+use Rattle.fasttrack_program.specs.Reading.{Agrees, Known, FileFails, InputFails}
+use Rattle.fasttrack_program.specs.Serving.{plainly, wholly, IsKept, Keeps, IsStopped, IsServed}
 use Rattle.fasttrack_program.proofs.OnPlans.{good-runs, bench-runs}
 use Rattle.fasttrack_program.proofs.OnRuns.{noted, behind_all}
 
@@ -35,156 +34,157 @@ calm-not_between : (a b c : ℕ) → StayedCalm a c → Rose a b → (c ≡ b) �
 calm-not_between a b c h rose (inl e) = absurd (omega (arith, h.0, h.1, rose, e))
 calm-not_between a b c h rose (inr more) = absurd (omega (arith, h.0, h.1, rose, more))
 
--- what became of the count while a line was told
-told-count : (mid new : Option (List ℕ)) (faults faults' : ℕ) (said result : Answer) (line : Option (List ℕ)) → Tells mid new faults faults' said result line → (faults' ≡ faults) ⊎ Rose faults faults'
-told-count mid new faults faults' said result None h = inl h.1
-told-count mid new faults faults' said result (Some line) (inl h) = inl h.1
-told-count mid new faults faults' said result (Some line) (inr h) = inr h.3
+-- ---- the line
+
+-- what became of the count while a line was written
+line-count : (mid new : Option (List ℕ)) (faults faults' : ℕ) (said result : Answer) (line : Option (List ℕ)) → WritesLineOf mid new faults faults' said result line → (faults' ≡ faults) ⊎ Rose faults faults'
+line-count mid new faults faults' said result None h = inl h.1
+line-count mid new faults faults' said result (Some line) (inl h) = inl h.1
+line-count mid new faults faults' said result (Some line) (inr h) = inr h.3
 
 -- the result of an answer that a lost line leaves as it is
-told-result : (mid new : Option (List ℕ)) (faults faults' : ℕ) (said result : Answer) (line : Option (List ℕ)) → unless_told said ≡ said → Tells mid new faults faults' said result line → result ≡ said
-told-result mid new faults faults' said result None same h = h.2
-told-result mid new faults faults' said result (Some line) same (inl h) = h.2
-told-result mid new faults faults' said result (Some line) same (inr h) = h.4 ∙ same
+line-result : (mid new : Option (List ℕ)) (faults faults' : ℕ) (said result : Answer) (line : Option (List ℕ)) → without_line said ≡ said → WritesLineOf mid new faults faults' said result line → result ≡ said
+line-result mid new faults faults' said result None same h = h.2
+line-result mid new faults faults' said result (Some line) same (inl h) = h.2
+line-result mid new faults faults' said result (Some line) same (inr h) = h.4 ∙ same
 
--- the line was told whole
-record Told (mid new : Option (List ℕ)) (faults faults' : ℕ) (said result : Answer) (text : List ℕ) : Type 0 where
-  pub appends : Appends mid new text
+concluded-no_memory : (mid new : Option (List ℕ)) (faults faults' : ℕ) (said result : Answer) → said ≡ NoMemory → WritesLineOf mid new faults faults' said result (line_of said) → result ≡ NoMemory
+concluded-no_memory mid new faults faults' said result e h =
+    line-result mid new faults faults' NoMemory result (line_of NoMemory) refl (subst (λ a. WritesLineOf mid new faults faults' a result (line_of a)) e h)
+
+-- a failed read, or want of memory, is the result
+concluded-same_by : (mid new : Option (List ℕ)) (faults faults' : ℕ) (answer said result : Answer) → without_line answer ≡ answer → IsSaidFor answer said → WritesLineOf mid new faults faults' said result (line_of said) → (result ≡ answer) ⊎ (result ≡ NoMemory)
+concluded-same_by mid new faults faults' answer said result same (inl e) h =
+    inl (line-result mid new faults faults' answer result (line_of answer) same (subst (λ a. WritesLineOf mid new faults faults' a result (line_of a)) e h))
+concluded-same_by mid new faults faults' answer said result same (inr e) h = inr (concluded-no_memory mid new faults faults' said result e.0 h)
+
+concluded-same : (mid new : Option (List ℕ)) (faults faults' : ℕ) (answer result : Answer) → without_line answer ≡ answer → Concludes mid new faults faults' answer result → (result ≡ answer) ⊎ (result ≡ NoMemory)
+concluded-same mid new faults faults' answer result same c = concluded-same_by mid new faults faults' answer c.said result same c.for_answer c.writes
+
+-- the line was written whole
+record IsWritten (mid new : Option (List ℕ)) (faults faults' : ℕ) (answer result : Answer) : Type 0 where
+  pub appends : Appends mid new (line_text answer)
   pub calm : faults' ≡ faults
-  pub same : result ≡ said
+  pub same : result ≡ answer
 
-told-whole : (start : ℕ) (mid new : Option (List ℕ)) (faults faults' : ℕ) (said result : Answer) (line : Option (List ℕ)) → StayedCalm start faults' → faults ≡ start → Tells mid new faults faults' said result line
-    → Told mid new faults faults' said result (unwrap_or line [])
-told-whole start mid new faults faults' said result None calm same h = record { appends = subst (λ o. Appends mid o []) (sym h.0) (Appends-nil mid); calm = h.1; same = h.2 }
-told-whole start mid new faults faults' said result (Some line) calm same (inl h) = record { appends = h.0; calm = h.1; same = h.2 }
-told-whole start mid new faults faults' said result (Some line) calm same (inr h) = absurd (calm-not_risen start faults' calm (subst (λ n. Rose n faults') same h.3))
+line-whole : (start : ℕ) (mid new : Option (List ℕ)) (faults faults' : ℕ) (said result : Answer) (line : Option (List ℕ)) → StayedCalm start faults' → faults ≡ start → WritesLineOf mid new faults faults' said result line
+    → Appends mid new (unwrap_or line []) × (faults' ≡ faults) × (result ≡ said)
+line-whole start mid new faults faults' said result None calm same h = (subst (λ o. Appends mid o []) (sym h.0) (Appends-nil mid), h.1, h.2)
+line-whole start mid new faults faults' said result (Some line) calm same (inl h) = (h.0, h.1, h.2)
+line-whole start mid new faults faults' said result (Some line) calm same (inr h) = absurd (calm-not_risen start faults' calm (subst (λ n. Rose n faults') same h.3))
 
--- a task that was done whole
-module _ (task : Task) (i : Image) (input : List ℕ) (o : Options) (entries : List Entry) (old mid new : Sinks) (said result : Answer) where
-  done-whole : new.out ≡ mid.out → new.out_faults ≡ mid.out_faults → StayedCalm old.notes_faults new.notes_faults → GetsAll old mid (task_output task i input o entries)
-      → Tells mid.notes new.notes mid.notes_faults new.notes_faults said result (line_of said) → said ≡ whole_answer task i input o → IsDoneWhole task i input o entries old new result
-  done-whole out out_faults calm got tells is =
-      let told = told-whole old.notes_faults mid.notes new.notes mid.notes_faults new.notes_faults said result (line_of said) calm got.calm.on_notes tells in
-      let all = behind_all old mid new.notes new.notes_faults (task_output task i input o entries) (line_text said) got (told.appends, told.calm) in
-      let sinks : noted mid new.notes new.notes_faults ≡ new = ap (λ x. record new { out = x; out_faults = mid.out_faults }) (sym out) ∙ ap (λ n. record new { out_faults = n }) (sym out_faults) in (
-        told.same ∙ is,
-        subst (λ a. Gets old new (task_output task i input o entries ++ marked 2 (line_text a))) (sym told.same)
-            (subst (λ s. Gets old s (task_output task i input o entries ++ marked 2 (line_text said))) sinks all.gets),
-      )
+concluded-whole_by : (start : ℕ) (mid new : Option (List ℕ)) (faults faults' : ℕ) (answer said result : Answer) → StayedCalm start faults' → faults ≡ start → IsSaidFor answer said
+    → WritesLineOf mid new faults faults' said result (line_of said) → (result ≡ NoMemory) ⊎ IsWritten mid new faults faults' answer result
+concluded-whole_by start mid new faults faults' answer said result calm same (inr e) h = inl (concluded-no_memory mid new faults faults' said result e.0 h)
+concluded-whole_by start mid new faults faults' answer said result calm same (inl e) h =
+    let own = subst (λ a. WritesLineOf mid new faults faults' a result (line_of a)) e h in
+    let all = line-whole start mid new faults faults' answer result (line_of answer) calm same own in
+    inr (record { appends = all.0; calm = all.1; same = all.2 })
 
-  -- a sink failed
-  not-failed : new.out_faults ≡ mid.out_faults → StayedCalm old.out_faults new.out_faults → StayedCalm old.notes_faults new.notes_faults
-      → Tells mid.notes new.notes mid.notes_faults new.notes_faults said result (line_of said) → (rest : List Mark) → FailsAt old mid rest → ⊥
-  not-failed out_faults out notes tells rest (inl h) = calm-not_risen old.out_faults mid.out_faults (subst (StayedCalm old.out_faults) out_faults out) h.0
-  not-failed out_faults out notes tells rest (inr h) =
-      calm-not_between old.notes_faults mid.notes_faults new.notes_faults notes h.0 (told-count mid.notes new.notes mid.notes_faults new.notes_faults said result (line_of said) tells)
-
-whole-end : (task : Task) (i : Image) (input : List ℕ) (o : Options) (e : End) → EndsAsGuest task → e ≡ end_of (program_alone i input o.budget).end → answer_of e ≡ whole_answer task i input o
-whole-end Alone i input o e ends is = ap answer_of is
-whole-end Run i input o e ends is = ap answer_of is
-whole-end Trial i input o e ends is = absurd ends
-whole-end (Bench number) i input o e ends is = absurd ends
-
-whole-report : (task : Task) (i : Image) (input : List ℕ) (o : Options) → EndsWithReport task → Shown ≡ whole_answer task i input o
-whole-report Alone i input o ends = absurd ends
-whole-report Run i input o ends = absurd ends
-whole-report Trial i input o ends = refl
-whole-report (Bench number) i input o ends = refl
-
-module _ (entries : List Entry) (old mid new : Sinks) (result : Answer) (out : new.out ≡ mid.out) (out_faults : new.out_faults ≡ mid.out_faults)
-    (out_calm : StayedCalm old.out_faults new.out_faults) (notes_calm : StayedCalm old.notes_faults new.notes_faults) (read : result ≡ ReadFault → ⊥) where
-  -- the answer of a refusal, of a fault or of want of memory stands
-  stands : (said : Answer) → unless_told said ≡ said → Tells mid.notes new.notes mid.notes_faults new.notes_faults said result (line_of said) → result ≡ said
-  stands said same tells = told-result mid.notes new.notes mid.notes_faults new.notes_faults said result (line_of said) same tells
-
-  refused : (p : Plan) (said : Answer) → unless_told said ≡ said → Tells mid.notes new.notes mid.notes_faults new.notes_faults said result (line_of said) → DoesPlan p entries old new said → DoesPlan p entries old new result
-  refused p said same tells h = subst (DoesPlan p entries old new) (sym (stands said same tells)) h
-
-  ran-by : (task : Task) (i : Image) (input : List ℕ) (o : Options) (said : Answer) → Serves (Runs task i input o) entries old mid said → Tells mid.notes new.notes mid.notes_faults new.notes_faults said result (line_of said)
-      → (result ≡ NoMemory) ⊎ IsDoneWhole task i input o entries old new result
-  ran-by task i input o (Exited code) h tells = inr (done-whole task i input o entries old mid new (Exited code) result out out_faults notes_calm h.1 tells (whole-end task i input o (E.Exit code) h.0 h.2))
-  ran-by task i input o (Trapped trap pc) h tells = inr (done-whole task i input o entries old mid new (Trapped trap pc) result out out_faults notes_calm h.1 tells (whole-end task i input o (E.Trap trap pc) h.0 h.2))
-  ran-by task i input o Spent h tells = inr (done-whole task i input o entries old mid new Spent result out out_faults notes_calm h.1 tells (whole-end task i input o E.Spent h.0 h.2))
-  ran-by task i input o Shown h tells = inr (done-whole task i input o entries old mid new Shown result out out_faults notes_calm h.1 tells (whole-report task i input o h.0))
-  ran-by task i input o Usage h tells = (let is = h.0 in absurd (cc))
-  ran-by task i input o ReadFault h tells = absurd (read (stands ReadFault refl tells))
-  ran-by task i input o ImageTooLong h tells = (let is = h.0 in absurd (cc))
-  ran-by task i input o (BadImage f) h tells = absurd h.0
-  ran-by task i input o InputTooLong h tells = (let is = h.0 in absurd (cc))
-  ran-by task i input o WriteFault h tells = absurd (not-failed task i input o entries old mid new WriteFault result out_faults out_calm notes_calm tells h.rest h.fails)
-  ran-by task i input o NoMemory h tells = inl (stands NoMemory refl tells)
-
-  refused-file : (p : Plan) (f : ImageFault) → HasFault p f → DoesPlan p entries old new (BadImage f)
-  refused-file (Refused (BadFile k)) f h = (f, h, refl)
-  refused-file (Refused BadWords) f h = absurd h
-  refused-file (Refused LongImage) f h = absurd h
-  refused-file (Refused LongInput) f h = absurd h
-  refused-file (Runs task i input o) f h = absurd h
-
-  refused-by : (r : Refusal) (said : Answer) → Serves (Refused r) entries old mid said → Tells mid.notes new.notes mid.notes_faults new.notes_faults said result (line_of said)
-      → (result ≡ NoMemory) ⊎ DoesPlan (Refused r) entries old new result
-  refused-by r Usage h tells = inr (refused (Refused r) Usage refl tells (subst (λ p. DoesPlan p entries old new Usage) (sym h.0) refl))
-  refused-by r ImageTooLong h tells = inr (refused (Refused r) ImageTooLong refl tells (subst (λ p. DoesPlan p entries old new ImageTooLong) (sym h.0) refl))
-  refused-by r (BadImage f) h tells = inr (refused (Refused r) (BadImage f) refl tells (refused-file (Refused r) f h.0))
-  refused-by r InputTooLong h tells = inr (refused (Refused r) InputTooLong refl tells (subst (λ p. DoesPlan p entries old new InputTooLong) (sym h.0) refl))
-  refused-by r ReadFault h tells = absurd (read (stands ReadFault refl tells))
-  refused-by r NoMemory h tells = inl (stands NoMemory refl tells)
-  refused-by r (Exited code) h tells = absurd h
-  refused-by r (Trapped trap pc) h tells = absurd h
-  refused-by r Spent h tells = absurd h
-  refused-by r Shown h tells = absurd h
-  refused-by r WriteFault h tells = absurd h
-
-  planned : (p : Plan) (said : Answer) → Serves p entries old mid said → Tells mid.notes new.notes mid.notes_faults new.notes_faults said result (line_of said)
-      → (result ≡ NoMemory) ⊎ DoesPlan p entries old new result
-  planned (Refused r) said h tells = refused-by r said h tells
-  planned (Runs task i input o) said h tells = ran-by task i input o said h tells
+concluded-whole : (start : ℕ) (mid new : Option (List ℕ)) (faults faults' : ℕ) (answer result : Answer) → StayedCalm start faults' → faults ≡ start → Concludes mid new faults faults' answer result
+    → (result ≡ NoMemory) ⊎ IsWritten mid new faults faults' answer result
+concluded-whole start mid new faults faults' answer result calm same c = concluded-whole_by start mid new faults faults' answer c.said result calm same c.for_answer c.writes
 
 or-else : {A B C : Type 0} → (B → C) → A ⊎ B → A ⊎ C
 or-else f (inl a) = inl a
 or-else f (inr b) = inr (f b)
 
+either-same : {A : Type 0} → A ⊎ A → A
+either-same (inl a) = a
+either-same (inr a) = a
+
+other-than : {A B : Type 0} → (A → ⊥) → A ⊎ B → B
+other-than other (inl a) = absurd (other a)
+other-than other (inr b) = b
+
+-- ---- the plan
+
+module _ (old mid new : Sinks) (result : Answer) (out : new.out ≡ mid.out) (out_faults : new.out_faults ≡ mid.out_faults)
+    (out_calm : StayedCalm old.out_faults new.out_faults) (notes_calm : StayedCalm old.notes_faults new.notes_faults) where
+  -- what was written, and the line behind it
+  with-line : (output : List Mark) (answer : Answer) → GetsAll old mid output → IsWritten mid.notes new.notes mid.notes_faults new.notes_faults answer result → Gets old new (output ++ marked 2 (line_text result))
+  with-line output answer got w =
+      let all = behind_all old mid new.notes new.notes_faults output (line_text answer) got (w.appends, w.calm) in
+      let sinks : noted mid new.notes new.notes_faults ≡ new = ap (λ x. record new { out = x; out_faults = mid.out_faults }) (sym out) ∙ ap (λ n. record new { out_faults = n }) (sym out_faults) in
+      subst (λ a. Gets old new (output ++ marked 2 (line_text a))) (sym w.same) (subst (λ s. Gets old s (output ++ marked 2 (line_text answer))) sinks all.gets)
+
+  followed-refusal : (a : Answer) → mid ≡ old → Concludes mid.notes new.notes mid.notes_faults new.notes_faults a result → (result ≡ NoMemory) ⊎ FollowsPlan (Refused a) old new result
+  followed-refusal a same line =
+      or-else (λ w. (w.same, with-line [] a (subst (λ s. GetsAll old s []) (sym same) (GetsAll-nothing old)) w))
+      (concluded-whole old.notes_faults mid.notes new.notes mid.notes_faults new.notes_faults a result notes_calm (ap (λ (s : Sinks). s.notes_faults) same) line)
+
+  -- a sink failed
+  not-failed : (answer : Answer) (rest : List Mark) → Concludes mid.notes new.notes mid.notes_faults new.notes_faults answer result → FailsAt old mid rest → ⊥
+  not-failed answer rest line (inl h) = calm-not_risen old.out_faults mid.out_faults (subst (StayedCalm old.out_faults) out_faults out_calm) h.0
+  not-failed answer rest line (inr h) =
+      calm-not_between old.notes_faults mid.notes_faults new.notes_faults notes_calm h.0 (line-count mid.notes new.notes mid.notes_faults new.notes_faults line.said result (line_of line.said) line.writes)
+
+  -- memory ran out, or a read failed
+  module _ (v : Served) (line : Concludes mid.notes new.notes mid.notes_faults new.notes_faults v.answer result) where
+    line-of : (w : Served) → v ≡ w → Concludes mid.notes new.notes mid.notes_faults new.notes_faults w.answer result
+    line-of w e = subst (λ (x : Served). Concludes mid.notes new.notes mid.notes_faults new.notes_faults x.answer result) e line
+
+    no-memory : v ≡ plainly NoMemory → result ≡ NoMemory
+    no-memory e = either-same (concluded-same mid.notes new.notes mid.notes_faults new.notes_faults NoMemory result refl (line-of (plainly NoMemory) e))
+
+    stopped : result ≢ ReadFault → IsStopped old mid v → result ≡ NoMemory
+    stopped read (inl e, same) = other-than read (concluded-same mid.notes new.notes mid.notes_faults new.notes_faults ReadFault result refl (line-of (plainly ReadFault) e))
+    stopped read (inr e, same) = no-memory e
+
+    module _ (p : Promise) (g : Given) (entries : List Entry) (history : IsHistory p.has_tracks g entries) where
+      followed-promise : IsKept p g entries old mid v → (result ≡ NoMemory) ⊎ DoesAll p g old new result
+      followed-promise (inl h) =
+          or-else (λ w. record { entries = entries; history = history; answers = w.same; gets = with-line (p.writes g entries) (p.answer g) h.1 w })
+          (concluded-whole old.notes_faults mid.notes new.notes mid.notes_faults new.notes_faults (p.answer g) result notes_calm h.1.calm.on_notes (line-of (wholly p g entries) h.0))
+      followed-promise (inr (inl h)) = absurd (not-failed v.answer h.1.rest line h.1.fails)
+      followed-promise (inr (inr h)) = inl (no-memory h.0)
+
+    followed-plan : (q : Plan) → Keeps q old mid v → (result ≡ NoMemory) ⊎ FollowsPlan q old new result
+    followed-plan (Refused a) k = followed-refusal a k.1 (line-of (plainly a) k.0)
+    followed-plan (Does p g) k = followed-promise p g k.entries k.history k.kept
+
+    followed : (q : Plan) → result ≢ ReadFault → IsStopped old mid v ⊎ Keeps q old mid v → (result ≡ NoMemory) ⊎ FollowsPlan q old new result
+    followed q read (inl h) = inl (stopped read h)
+    followed q read (inr k) = followed-plan q k
+
 -- a call in which nothing failed
-pub completed : (request : Option Request) (told_file told_input : Option (List ℕ)) (old new : Sinks) (histories histories' : List (List Entry)) (result : Answer)
-    → IsAnswered request told_file told_input old new histories histories' result → StayedCalm old.out_faults new.out_faults → StayedCalm old.notes_faults new.notes_faults → (result ≡ ReadFault → ⊥)
-    → IsComplete request told_file told_input old new result
-completed request told_file told_input old new histories histories' result h out notes read =
-    or-else (λ does. record { file = h.served.file; input = h.served.input; entries = h.entries; file_told = h.served.file_told; input_told = h.served.input_told; history = h.served.history; done = does })
-    (planned h.entries old h.between new result h.out h.out_faults out notes read (plan request h.served.file h.served.input) h.said h.served.serves h.tells)
+pub completed : (request : Option Request) (known : Known) (old mid new : Sinks) (v : Served) (result : Answer) → IsServed request known old mid v
+    → new.out ≡ mid.out → new.out_faults ≡ mid.out_faults → Concludes mid.notes new.notes mid.notes_faults new.notes_faults v.answer result
+    → StayedCalm old.out_faults new.out_faults → StayedCalm old.notes_faults new.notes_faults → result ≢ ReadFault → IsComplete request known old new result
+completed request known old mid new v result h out out_faults line out_calm notes_calm read =
+    or-else (λ does. record { found = h.found; agrees = h.agrees; follows = does })
+    (followed old mid new result out out_faults out_calm notes_calm v line (plan request h.found) read h.keeps)
 
 -- a read that failed was counted
-pub read-failed : {I : Type 0} (request : Option Request) (told_file : Option (List ℕ)) (files files' : ℕ) (faults : I → ℕ) (input input' : I)
-    → StayedCalm files files' → StayedCalm (faults input) (faults input') → ReadFails request told_file files files' faults input input' → ⊥
-read-failed request told_file files files' faults input input' calm calm' (reads, inl h) = calm-not_risen files files' calm h.0
-read-failed request told_file files files' faults input input' calm calm' (reads, inr h) = calm-not_risen (faults input) (faults input') calm' h.rose
+pub read-failed : {F I : Type 0} (f : FilesRow F) (i : SourceRow I) (request : Option Request) (files files' : F) (input input' : I)
+    → StayedCalm (f.faults files) (f.faults files') → StayedCalm (i.faults input) (i.faults input') → FileFails f i request files files' input input' ⊎ InputFails f i request files files' input input' → ⊥
+read-failed f i request files files' input input' calm calm' (inl h) = calm-not_risen (f.faults files) (f.faults files') calm h.risen
+read-failed f i request files files' input input' calm calm' (inr h) = calm-not_risen (i.faults input) (i.faults input') calm' h.risen
 
 -- ---- calls that are done whole
 
-same_input : (unread : Bool) (told : Option (List ℕ)) (given input : List ℕ) → IsTold told given → (unread ≡ false → (told ≡ Some input) × (length input ≤ input_limit))
+given-same : (unread : Bool) (known : Option (List ℕ)) (given input : List ℕ) → Agrees known given → (unread ≡ false → (known ≡ Some input) × (length input ≤ input_limit))
     → ((unread ≡ false → length given ≤ input_limit) × ◌≡◌ {A = List ℕ} (if unread then [] else given) (if unread then [] else input))
-same_input true told given input t h = (λ e. cc, refl)
-same_input false told given input t h =
-    let same : given ≡ input = subst (λ o. IsTold o given) (h refl).0 t in
+given-same true known given input t h = (λ e. cc, refl)
+given-same false known given input t h =
+    let same : given ≡ input = subst (λ o. Agrees o given) (h refl).0 t in
     (λ e. subst (λ xs. length xs ≤ input_limit) (sym same) (h refl).1, same)
 
-task-done : (p : Plan) (task : Task) (i : Image) (input : List ℕ) (o : Options) (entries : List Entry) (old new : Sinks) (answer : Answer) → p ≡ Runs task i input o → HasHistoryOf p entries → DoesPlan p entries old new answer
-    → IsTaskDone task i input o old new answer
-task-done p task i input o entries old new answer is history done = (entries, subst (λ q. HasHistoryOf q entries) is history, subst (λ q. DoesPlan q entries old new answer) is done)
+pub good-done : (request : Request) (known : Option (List ℕ)) (file input : List ℕ) (i : Image) (old new : Sinks) (answer : Answer) → IsComplete (Some request) (record { file = Some file; input = known }) old new answer
+    → IsTrue (is_file (promise_of request.task).guest) → length file ≤ image_limit → image file ≡ Ok i → (request.no_input ≡ false → (known ≡ Some input) × (length input ≤ input_limit))
+    → (answer ≡ NoMemory) ⊎ DoesAll (promise_of request.task) (record { image = i; input = if request.no_input then [] else input; options = options_of request }) old new answer
+good-done request known file input i old new answer (inl e) reads short good few = inl e
+good-done request known file input i old new answer (inr d) reads short good few =
+    let p = promise_of request.task in
+    let given = given-same request.no_input known d.found.input input d.agrees.input few in
+    let short_file = subst (λ xs. length xs ≤ image_limit) (sym d.agrees.file) short in
+    let good_file = subst (λ xs. image xs ≡ Ok i) (sym d.agrees.file) good in
+    let is = good-runs request d.found i reads short_file good_file given.0 ∙ ap (λ xs. Does p (record { image = i; input = xs; options = options_of request })) given.1 in
+    inr (subst (λ q. FollowsPlan q old new answer) is d.follows)
 
-pub good-done : (request : Request) (told : Option (List ℕ)) (file input : List ℕ) (i : Image) (old new : Sinks) (answer : Answer) → IsComplete (Some request) (Some file) told old new answer
-    → is_bench request.task ≡ false → length file ≤ image_limit → image file ≡ Ok i → (request.no_input ≡ false → (told ≡ Some input) × (length input ≤ input_limit))
-    → (answer ≡ NoMemory) ⊎ IsTaskDone request.task i (if request.no_input then [] else input) (options_of request) old new answer
-good-done request told file input i old new answer (inl e) reads short good few = inl e
-good-done request told file input i old new answer (inr d) reads short good few =
-    let given = same_input request.no_input told d.input input d.input_told few in
-    let short_file = subst (λ xs. length xs ≤ image_limit) (sym d.file_told) short in
-    let good_file = subst (λ xs. image xs ≡ Ok i) (sym d.file_told) good in
-    let is = good-runs request d.file d.input i reads short_file good_file given.0 ∙ ap (λ xs. Runs request.task i xs (options_of request)) given.1 in
-    inr (task-done (plan (Some request) d.file d.input) request.task i (if request.no_input then [] else input) (options_of request) d.entries old new answer is d.history d.done)
-
-pub bench-done : (request : Request) (told_file told_input : Option (List ℕ)) (number : ℕ) (old new : Sinks) (answer : Answer) → IsComplete (Some request) told_file told_input old new answer
-    → request.task ≡ Bench number → (answer ≡ NoMemory) ⊎ ((i : Image) × IsTaskDone (Bench number) i [] (options_of request) old new answer)
-bench-done request told_file told_input number old new answer (inl e) is = inl e
-bench-done request told_file told_input number old new answer (inr d) is =
-    let runs = bench-runs request d.file d.input number is in
-    inr (runs.0, task-done (plan (Some request) d.file d.input) (Bench number) runs.0 [] (options_of request) d.entries old new answer runs.1 d.history d.done)
+pub bench-done : (request : Request) (known : Known) (number : ℕ) (old new : Sinks) (answer : Answer) → IsComplete (Some request) known old new answer
+    → request.task ≡ Bench number → (answer ≡ NoMemory) ⊎ ((i : Image) × DoesAll (promise_of (Bench number)) (record { image = i; input = []; options = options_of request }) old new answer)
+bench-done request known number old new answer (inl e) is = inl e
+bench-done request known number old new answer (inr d) is =
+    let runs = bench-runs request d.found number is in
+    inr (runs.0, subst (λ q. FollowsPlan q old new answer) runs.1 d.follows)

@@ -1,5 +1,5 @@
 -- The report of a trial is the program's, and on `out` it is what the task writes
-use Rattle.std.proofs.Common.{◌≡◌, ℕ, List, [], ◌∷◌, ◌++◌, ◌<◌, ◌≤◌, length, drop, get_or, map, Option, Err, inl, inr, arith, refl, sym, ap, ◌∙◌, subst, append-nil}
+use Rattle.std.proofs.Common.{◌≡◌, ℕ, List, [], ◌∷◌, ◌++◌, ◌<◌, ◌≤◌, length, drop, get_or, map, Option, Ok, Err, inl, inr, arith, refl, sym, ap, ◌∙◌, subst, append-nil}
 use Rattle.std.specs.Prelude.{All}
 use Rattle.std.specs.Io.KnownBytes.{Appends}
 use Rattle.speculation.specs.Run.{Mark, marked, stream_bytes}
@@ -26,45 +26,44 @@ use Rattle.region_trial.specs.declared.trial.Trial.{Trial}
 use Rattle.region_trial.proofs.OnTrials.{saves-rows}
 use Rattle.report_text.specs.Reports.{bench_lines}
 use Rattle.guest_streams.specs.GuestStreams.{end_of, Sinks, GetsAll, GetsPart, IsNext, FailsAt, StopsShort}
-use Rattle.fasttrack_program.specs.Reports.{report, told_verdict, told_row, told_ledger, program_report, bench_report}
+use Rattle.fasttrack_program.specs.Reports.{report, reported_verdict, reported_row, reported_ledger, program_report, bench_report}
 use Rattle.fasttrack_program.specs.TextOnSink.{StoppedInText, WritesText}
-use Rattle.program_words.specs.declared.request.Task.{Task}
-use Rattle.fasttrack_program.specs.declared.options.Options.{Options}
-use Rattle.fasttrack_program.specs.Plan.{Runs}
-use Rattle.fasttrack_program.specs.Serving.{answer_of_fault}
-use Rattle.fasttrack_program.specs.TopCall.{task_output, Serves}
+use Rattle.fasttrack_program.specs.Answers.{answer_of_fault}
+use Rattle.fasttrack_program.specs.Promise.{Given, Promise, IsHistory}
+use Rattle.fasttrack_program.specs.Serving.{plainly, wholly, KeepsPromise}
+use Rattle.fasttrack_program.proofs.OnKeeping.{BreaksOff, kept-whole, kept-part}
 use Rattle.speculation.specs.declared.history.Entry.{Entry}
 use Rattle.guest_streams.specs.declared.fault.OutputFault.{OutputFault}
 use Rattle.guest_streams.specs.declared.fault.OutputFault.TheVariants.{Write, NoMemory}
 use Rattle.guest_streams.proofs.OnStreams.{stream_bytes-own_1, marked-append, IsNext-marked, Gets-on_out}
 
--- ---- the rows of the theory, as they are told
+-- ---- the rows of the theory, as they are reported
 
-told_verdict-back : (v : Verdict) → told_verdict (core_verdict v) ≡ v
-told_verdict-back Kept = refl
-told_verdict-back (Differs d) = refl
-told_verdict-back Stopped = refl
-told_verdict-back Late = refl
+reported_verdict-back : (v : Verdict) → reported_verdict (core_verdict v) ≡ v
+reported_verdict-back Kept = refl
+reported_verdict-back (Differs d) = refl
+reported_verdict-back Stopped = refl
+reported_verdict-back Late = refl
 
-told_row-back : (r : Row) → told_row (ledger_row r) ≡ r
-told_row-back r = ap (λ v. record r { verdict = v }) (told_verdict-back r.verdict)
+reported_row-back : (r : Row) → reported_row (ledger_row r) ≡ r
+reported_row-back r = ap (λ v. record r { verdict = v }) (reported_verdict-back r.verdict)
 
-pub told_rows-back : (rows : List Row) → map told_row (ledger_rows rows) ≡ rows
-told_rows-back [] = refl
-told_rows-back (r ∷ rs) = ap (λ x. x ∷ map told_row (ledger_rows rs)) (told_row-back r) ∙ ap (λ xs. r ∷ xs) (told_rows-back rs)
+pub reported_rows-back : (rows : List Row) → map reported_row (ledger_rows rows) ≡ rows
+reported_rows-back [] = refl
+reported_rows-back (r ∷ rs) = ap (λ x. x ∷ map reported_row (ledger_rows rs)) (reported_row-back r) ∙ ap (λ xs. r ∷ xs) (reported_rows-back rs)
 
-core_verdict-back : (v : CoreVerdict Difference) → core_verdict (told_verdict v) ≡ v
+core_verdict-back : (v : CoreVerdict Difference) → core_verdict (reported_verdict v) ≡ v
 core_verdict-back CoreKept = refl
 core_verdict-back (CoreDiffers d) = refl
 core_verdict-back CoreStopped = refl
 core_verdict-back CoreLate = refl
 
-ledger_row-back : (r : LedgerRow Difference) → ledger_row (told_row r) ≡ r
+ledger_row-back : (r : LedgerRow Difference) → ledger_row (reported_row r) ≡ r
 ledger_row-back r = ap (λ v. record r { judged = record r.judged { verdict = v } }) (core_verdict-back r.judged.verdict)
 
-pub ledger_rows-back : (rows : List (LedgerRow Difference)) → ledger_rows (map told_row rows) ≡ rows
+pub ledger_rows-back : (rows : List (LedgerRow Difference)) → ledger_rows (map reported_row rows) ≡ rows
 ledger_rows-back [] = refl
-ledger_rows-back (r ∷ rs) = ap (λ x. x ∷ ledger_rows (map told_row rs)) (ledger_row-back r) ∙ ap (λ xs. r ∷ xs) (ledger_rows-back rs)
+ledger_rows-back (r ∷ rs) = ap (λ x. x ∷ ledger_rows (map reported_row rs)) (ledger_row-back r) ∙ ap (λ xs. r ∷ xs) (ledger_rows-back rs)
 
 end_of-back : (e : End) → end_of (core_end e) ≡ e
 end_of-back (Exit code) = refl
@@ -78,23 +77,23 @@ pub record TellsProgram (i : Image) (input : List ℕ) (budget : ℕ) (rows : Li
   pub end : f.end ≡ end_of (program_alone i input budget).end
 
 module _ (i : Image) (input : List ℕ) (budget : ℕ) (rows : List Row) (f : Finished) (h : TellsProgram i input budget rows f) where
-  rows-told : rows ≡ told_ledger i input budget
-  rows-told = sym (told_rows-back rows) ∙ ap (map told_row) h.are_ledger
+  rows-reported : rows ≡ reported_ledger i input budget
+  rows-reported = sym (reported_rows-back rows) ∙ ap (map reported_row) h.are_ledger
 
   pub report-is : report rows f.count f.end ≡ program_report i input budget
   unfolding program_report
   report-is =
-      ap (λ xs. report xs f.count f.end) rows-told
-      ∙ ap (λ n. report (told_ledger i input budget) n f.end) h.count
-      ∙ ap (λ e. report (told_ledger i input budget) (program_alone i input budget).count e) h.end
+      ap (λ xs. report xs f.count f.end) rows-reported
+      ∙ ap (λ n. report (reported_ledger i input budget) n f.end) h.count
+      ∙ ap (λ e. report (reported_ledger i input budget) (program_alone i input budget).count e) h.end
 
   pub summary-is : (number output : ℕ) → output ≡ length (output_of (program_alone i input budget)) → bench_lines number (totals_of rows f.count) output f.end ≡ bench_report number i input budget
   unfolding bench_report
   summary-is number output total =
-      ap (λ xs. bench_lines number (totals_of xs f.count) output f.end) rows-told
-      ∙ ap (λ n. bench_lines number (totals_of (told_ledger i input budget) n) output f.end) h.count
-      ∙ ap (λ n. bench_lines number (totals_of (told_ledger i input budget) (program_alone i input budget).count) n f.end) total
-      ∙ ap (λ e. bench_lines number (totals_of (told_ledger i input budget) (program_alone i input budget).count) (length (output_of (program_alone i input budget))) e) h.end
+      ap (λ xs. bench_lines number (totals_of xs f.count) output f.end) rows-reported
+      ∙ ap (λ n. bench_lines number (totals_of (reported_ledger i input budget) n) output f.end) h.count
+      ∙ ap (λ n. bench_lines number (totals_of (reported_ledger i input budget) (program_alone i input budget).count) n f.end) total
+      ∙ ap (λ e. bench_lines number (totals_of (reported_ledger i input budget) (program_alone i input budget).count) (length (output_of (program_alone i input budget))) e) h.end
 
   totals-add : Totalled (program_alone i input budget).count (ledger_rows rows)
   totals-add = totalled (rv32 input) (start_of i) budget (ledger_rows rows) ([], append-nil (ledger_rows rows) ∙ h.are_ledger)
@@ -120,34 +119,44 @@ trial_report l input budget t h =
 parts_marked : (got rest text : List ℕ) → got ++ rest ≡ text → marked 1 got ++ marked 1 rest ≡ marked 1 text
 parts_marked got rest text e = sym (marked-append 1 got rest) ∙ ap (marked 1) e
 
-pub text_shown : (s : Sinks) (told : Option (List ℕ)) (faults : ℕ) (text : List ℕ) → Appends s.out told text → faults ≡ s.out_faults → GetsAll s (record s { out = told; out_faults = faults }) (marked 1 text)
-text_shown s told faults text a c = record { gets = Gets-on_out s told faults text a; calm = record { on_out = c; on_notes = refl } }
+pub text_shown : (s : Sinks) (held : Option (List ℕ)) (faults : ℕ) (text : List ℕ) → Appends s.out held text → faults ≡ s.out_faults → GetsAll s (record s { out = held; out_faults = faults }) (marked 1 text)
+text_shown s held faults text a c = record { gets = Gets-on_out s held faults text a; calm = record { on_out = c; on_notes = refl } }
 
-text_stops : (s : Sinks) (told : Option (List ℕ)) (faults : ℕ) (text : List ℕ)
-    → WritesText {T = Unit {0}} s.out told s.out_faults faults text (Err Write) → StopsShort s (record s { out = told; out_faults = faults }) (marked 1 text)
-text_stops s told faults text h = record {
+text_stops : (s : Sinks) (held : Option (List ℕ)) (faults : ℕ) (text : List ℕ)
+    → WritesText {T = Unit {0}} s.out held s.out_faults faults text (Err Write) → StopsShort s (record s { out = held; out_faults = faults }) (marked 1 text)
+text_stops s held faults text h = record {
   got = marked 1 h.0.beginning.got;
   rest = marked 1 h.0.beginning.rest;
   parts = parts_marked h.0.beginning.got h.0.beginning.rest text h.0.beginning.parts;
-  gets = Gets-on_out s told faults h.0.beginning.got h.0.beginning.appends;
+  gets = Gets-on_out s held faults h.0.beginning.got h.0.beginning.appends;
   fails = inl (h.1, refl, IsNext-marked 1 h.0.beginning.rest h.0.more);
 }
 
-text_within : (s : Sinks) (told : Option (List ℕ)) (faults : ℕ) (text : List ℕ)
-    → WritesText {T = Unit {0}} s.out told s.out_faults faults text (Err NoMemory) → GetsPart s (record s { out = told; out_faults = faults }) (marked 1 text)
-text_within s told faults text h = record {
+text_within : (s : Sinks) (held : Option (List ℕ)) (faults : ℕ) (text : List ℕ)
+    → WritesText {T = Unit {0}} s.out held s.out_faults faults text (Err NoMemory) → GetsPart s (record s { out = held; out_faults = faults }) (marked 1 text)
+text_within s held faults text h = record {
   got = marked 1 h.0.got;
   rest = marked 1 h.0.rest;
   parts = parts_marked h.0.got h.0.rest text h.0.parts;
-  gets = Gets-on_out s told faults h.0.got h.0.appends;
+  gets = Gets-on_out s held faults h.0.got h.0.appends;
   calm = record { on_out = h.1; on_notes = refl };
 }
 
--- a report that could not be written whole
-pub report_fails : (task : Task) (i : Image) (input : List ℕ) (o : Options) (entries : List Entry) (s : Sinks) (told : Option (List ℕ)) (faults : ℕ) (text : List ℕ) (e : OutputFault) → task_output task i input o entries ≡ marked 1 text
-    → WritesText {T = Unit {0}} s.out told s.out_faults faults text (Err e) → Serves (Runs task i input o) entries s (record s { out = told; out_faults = faults }) (answer_of_fault e)
-report_fails task i input o entries s told faults text Write is w = subst (StopsShort s (record s { out = told; out_faults = faults })) (sym is) (text_stops s told faults text w)
-report_fails task i input o entries s told faults text NoMemory is w = subst (GetsPart s (record s { out = told; out_faults = faults })) (sym is) (text_within s told faults text w)
+-- a promise of a text on `out` alone
+module _ (p : Promise) (g : Given) (entries : List Entry) (history : IsHistory p.has_tracks g entries) (text : List ℕ) (is : p.writes g entries ≡ marked 1 text) (s : Sinks) (got : Option (List ℕ)) (faults : ℕ) where
+  pub report-whole : WritesText {T = Unit {0}} s.out got s.out_faults faults text (Ok tt) → KeepsPromise p g s (record s { out = got; out_faults = faults }) (wholly p g entries)
+  report-whole w =
+      let after : Sinks = record s { out = got; out_faults = faults } in
+      kept-whole p g entries history s after (subst (GetsAll s after) (sym is) (text_shown s got faults text w.0 w.1))
+
+  breaks-off : (e : OutputFault) → WritesText {T = Unit {0}} s.out got s.out_faults faults text (Err e) → BreaksOff e s (record s { out = got; out_faults = faults }) (marked 1 text)
+  breaks-off Write w = text_stops s got faults text w
+  breaks-off NoMemory w = text_within s got faults text w
+
+  pub report-part : (e : OutputFault) → WritesText {T = Unit {0}} s.out got s.out_faults faults text (Err e) → KeepsPromise p g s (record s { out = got; out_faults = faults }) (plainly (answer_of_fault e))
+  report-part e w =
+      let after : Sinks = record s { out = got; out_faults = faults } in
+      kept-part p g entries history s after e (subst (BreaksOff e s after) (sym is) (breaks-off e w))
 
 -- ---- what is left on `out` where a text stops short
 

@@ -25,8 +25,8 @@ pub record TextSoFar (old now : Option (List ℕ)) (faults faults' : ℕ) (text 
   pub appends : Appends old now got
   pub calm : faults' ≡ faults
 
-pub TextSoFar-first : (told : Option (List ℕ)) (faults : ℕ) (text : List ℕ) → TextSoFar told told faults faults text text
-TextSoFar-first told faults text = record { got = []; parts = refl; appends = Appends-nil told; calm = refl }
+pub TextSoFar-first : (held : Option (List ℕ)) (faults : ℕ) (text : List ℕ) → TextSoFar held held faults faults text text
+TextSoFar-first held faults text = record { got = []; parts = refl; appends = Appends-nil held; calm = refl }
 
 -- a part was written whole
 pub TextSoFar-next : {T : Type 0} (old now next : Option (List ℕ)) (faults faults' faults'' : ℕ) (text part rest : List ℕ) (x : T)

@@ -1,4 +1,4 @@
--- The line on notes that tells an answer
+-- The line on notes for an answer
 use Rattle.std.specs.Prelude.{◌≡◌, ℕ, ◌<◌, List, [], ◌∷◌, ◌++◌, length, take, Option, Some, None, codes, ◌⊎◌}
 use Rattle.std.specs.Io.KnownBytes.{Appends}
 use Rattle.host_io.specs.Faults.{Rose}
@@ -32,28 +32,28 @@ HasNumbers (BadImage fault) = Unit {0}
 HasNumbers _ = ⊥
 
 -- the answer of a call whose line could not be written: a guest's end is lost then, any other answer stays
-abbrev pub unless_told : Answer → Answer
-unless_told (Trapped trap pc) = WriteFault
-unless_told Spent = WriteFault
-unless_told answer = answer
+abbrev pub without_line : Answer → Answer
+without_line (Trapped trap pc) = WriteFault
+without_line Spent = WriteFault
+without_line answer = answer
 
 -- The line was written whole, or in part and a fault was counted; `said` is the answer whose line it is.
-abbrev pub TellsLine : Option (List ℕ) → Option (List ℕ) → ℕ → ℕ → Answer → Answer → List ℕ → Type 0
-TellsLine old new faults faults' said result line =
+abbrev pub WritesLine : Option (List ℕ) → Option (List ℕ) → ℕ → ℕ → Answer → Answer → List ℕ → Type 0
+WritesLine old new faults faults' said result line =
     (Appends old new line × (faults' ≡ faults) × (result ≡ said))
-    ⊎ ((n : ℕ) × (n < length line) × Appends old new (take n line) × Rose faults faults' × (result ≡ unless_told said))
+    ⊎ ((n : ℕ) × (n < length line) × Appends old new (take n line) × Rose faults faults' × (result ≡ without_line said))
 
 -- an answer without a line leaves notes as they were
-abbrev pub Tells : Option (List ℕ) → Option (List ℕ) → ℕ → ℕ → Answer → Answer → Option (List ℕ) → Type 0
-Tells old new faults faults' said result None = (new ≡ old) × (faults' ≡ faults) × (result ≡ said)
-Tells old new faults faults' said result (Some line) = TellsLine old new faults faults' said result line
+abbrev pub WritesLineOf : Option (List ℕ) → Option (List ℕ) → ℕ → ℕ → Answer → Answer → Option (List ℕ) → Type 0
+WritesLineOf old new faults faults' said result None = (new ≡ old) × (faults' ≡ faults) × (result ≡ said)
+WritesLineOf old new faults faults' said result (Some line) = WritesLine old new faults faults' said result line
 
 -- the line is that of the answer, or that of want of memory where there was none for a line with numbers
 abbrev pub IsSaidFor : Answer → Answer → Type 0
 IsSaidFor answer said = (said ≡ answer) ⊎ ((said ≡ NoMemory) × HasNumbers answer)
 
--- what the telling of an answer leaves on notes, and what the call then answers
+-- what the line of an answer leaves on notes, and what the call then answers
 pub record Concludes (old new : Option (List ℕ)) (faults faults' : ℕ) (answer result : Answer) : Type 0 where
   pub said : Answer
   pub for_answer : IsSaidFor answer said
-  pub tells : Tells old new faults faults' said result (line_of said)
+  pub writes : WritesLineOf old new faults faults' said result (line_of said)

@@ -1,11 +1,12 @@
 pub mod AnswerLine
+pub mod Answers
 pub mod Completeness
 pub mod FaultTexts
 pub mod Plan
+pub mod Promise
 pub mod Reading
 pub mod Reports
 pub mod Serving
-pub mod Status
 pub mod TextOnSink
 pub mod TopCall
 pub mod Tracks

@@ -1,47 +1,91 @@
--- What the reading of the image and of the input answers
-use Rattle.std.specs.Prelude.{◌≡◌, ℕ, ◌<◌, ◌≤◌, Bool, true, false, List, [], length, Option, Some, IfSome, Result, Ok, Err}
+-- What a call reads, and what the reading of bytes answers
+use Rattle.std.specs.Prelude.{◌≡◌, ◌≢◌, ℕ, false, List, Option, Some, None, IfSome, IsTrue, Result, Ok, Err, ◌⊎◌}
 use Rattle.host_io.specs.Faults.{Rose}
-use Rattle.elf32_loader.specs.FaultOf.{fault_of}
+use Rattle.host_io.specs.declared.files.Files.{Ghosts as FilesRow}
+use Rattle.host_io.specs.declared.source.Source.{Ghosts as SourceRow}
 use Rattle.elf32_loader.specs.LoadedImage.{image_of_loaded}
 use Rattle.elf32_loader.specs.declared.loaded.Loaded.{Loaded}
-use Rattle.basic_types.specs.declared.bytes.Bytes.{Bytes}
-use Rattle.guest_model.specs.ImageFault.{Fault}
-use Rattle.fasttrack_program.specs.Plan.{LongImage, BadFile, image_in, input_limit}
+use Rattle.guest_model.specs.Image.{Image}
+use Rattle.program_words.specs.CommandLine.{Request}
+use Rattle.fasttrack_program.specs.Plan.{Found, image_in, reads_file, reads_input}
 use Rattle.fasttrack_program.specs.declared.answer.Answer.{Answer}
-use Rattle.fasttrack_program.specs.declared.answer.Answer.TheVariants.{ReadFault, ImageTooLong, BadImage, InputTooLong, NoMemory}
+use Rattle.fasttrack_program.specs.declared.answer.Answer.TheVariants.{Usage, ReadFault, ImageTooLong, BadImage, NoMemory}
 
--- where an object tells bytes, these are they
-abbrev pub IsTold : Option (List ℕ) → List ℕ → Type 0
-IsTold told bs = IfSome told (λ all. bs ≡ all)
+-- ---- what is known of bytes before they are read
 
--- the file is within its limit and holds this image, or is refused for its length or its first fault
-abbrev pub ReadsImage : Option (List ℕ) → Result Loaded Answer → Type 0
-ReadsImage told (Ok l) = (file : List ℕ) × IsTold told file × (image_in file ≡ Ok (image_of_loaded l))
-ReadsImage told (Err ImageTooLong) = (file : List ℕ) × IsTold told file × (image_in file ≡ Err LongImage)
-ReadsImage told (Err (BadImage f)) = (file : List ℕ) × (k : Fault) × IsTold told file × (fault_of f ≡ Some k) × (image_in file ≡ Err (BadFile k))
-ReadsImage told (Err ReadFault) = Unit {0}
-ReadsImage told (Err NoMemory) = Unit {0}
-ReadsImage told (Err _) = ⊥
+-- where bytes are known, these are they
+abbrev pub Agrees : Option (List ℕ) → List ℕ → Type 0
+Agrees known bytes = IfSome known (λ all. bytes ≡ all)
 
--- the input is whole and within its limit, or longer
-abbrev pub ReadsInput : Option (List ℕ) → Result Bytes Answer → Type 0
-ReadsInput told (Ok bs) = (length bs ≤ input_limit) × IsTold told bs
-ReadsInput told (Err InputTooLong) = (input : List ℕ) × IsTold told input × (input_limit < length input)
-ReadsInput told (Err ReadFault) = Unit {0}
-ReadsInput told (Err NoMemory) = Unit {0}
-ReadsInput told (Err _) = ⊥
+-- what is known of the image file that the words name, and of the input
+pub record Known : Type 0 where
+  pub file : Option (List ℕ)
+  pub input : Option (List ℕ)
 
--- the same, or no bytes where the input is to be left unread
-abbrev pub ReadsWanted : Bool → Option (List ℕ) → Result Bytes Answer → Type 0
-ReadsWanted false told r = ReadsInput told r
-ReadsWanted true told (Ok bs) = bs ≡ []
-ReadsWanted true told (Err _) = ⊥
+pub record AgreesWith (known : Known) (found : Found) : Type 0 where
+  pub file : Agrees known.file found.file
+  pub input : Agrees known.input found.input
 
--- a read fault is counted, and nothing else is
-abbrev pub CountsReadFault : {T : Type 0} → ℕ → ℕ → Result T Answer → Type 0
-CountsReadFault old new (Err ReadFault) = Rose old new
-CountsReadFault old new _ = new ≡ old
+abbrev pub known_file : {F : Type 0} → FilesRow F → Option Request → F → Option (List ℕ)
+known_file f None files = None
+known_file f (Some r) files = f.contents files r.image
 
--- but for ReadFault, no read failed: the counts of the files and of the input are as before
-abbrev pub ReadsWithoutFault : (files files' input input' : ℕ) → Answer → Type 0
-ReadsWithoutFault files files' input input' answer = (answer ≡ ReadFault → ⊥) → (files' ≡ files) × (input' ≡ input)
+abbrev pub known_of : {F I : Type 0} → FilesRow F → SourceRow I → Option Request → F → I → Known
+known_of f i request files input = record { file = known_file f request files; input = i.remaining input }
+
+-- ---- what is made of bytes that are read
+
+-- a read failed, or there was no memory for the bytes
+abbrev pub IsUnread : Answer → Type 0
+IsUnread answer = (answer ≡ ReadFault) ⊎ (answer ≡ NoMemory)
+
+-- What `make` makes of the bytes that are there: a value, or the answer that refuses them. Else they could not be read.
+abbrev pub Reads : {A : Type 0} → (List ℕ → Result A Answer) → Option (List ℕ) → Result A Answer → Type 0
+Reads make known (Ok x) = (bytes : List ℕ) × Agrees known bytes × (make bytes ≡ Ok x)
+Reads make known (Err answer) = IsUnread answer ⊎ ((bytes : List ℕ) × Agrees known bytes × (make bytes ≡ Err answer))
+
+-- an image that is loaded, as the guest's image
+abbrev pub loaded_image : Result Loaded Answer → Result Image Answer
+loaded_image (Ok l) = Ok (image_of_loaded l)
+loaded_image (Err answer) = Err answer
+
+-- a read that failed is counted, and nothing else is
+pub record CountsReadFault {T : Type 0} (old new : ℕ) (r : Result T Answer) : Type 0 where
+  pub risen : r ≡ Err ReadFault → Rose old new
+  pub calm : r ≢ Err ReadFault → new ≡ old
+
+-- ---- what a call reads, and in which order
+
+-- the answers that come before the input's place in the order, but for a failed read and for want of memory
+abbrev pub IsRefusedEarly : Answer → Type 0
+IsRefusedEarly Usage = Unit {0}
+IsRefusedEarly ImageTooLong = Unit {0}
+IsRefusedEarly (BadImage f) = Unit {0}
+IsRefusedEarly _ = ⊥
+
+-- Below, `f` and `i` are the rows of the bounds of files and input: in a clause `F.Files` and `I.Source`.
+module _ {F I : Type 0} (f : FilesRow F) (i : SourceRow I) (request : Option Request) (files files' : F) (input input' : I) where
+  -- the image file could not be read
+  pub record FileFails : Type 0 where
+    pub wanted : IsTrue (reads_file request)
+    pub risen : Rose (f.faults files) (f.faults files')
+    pub unread : input' ≡ input
+
+  -- the input could not be read, behind a file that holds an image without a fault
+  pub record InputFails : Type 0 where
+    pub wanted : IsTrue (reads_input request)
+    pub risen : Rose (i.faults input) (i.faults input')
+    pub calm : f.faults files' ≡ f.faults files
+    pub file : List ℕ
+    pub agrees : Agrees (known_file f request files) file
+    pub image : Image
+    pub loads : image_in file ≡ Ok image
+
+  -- A read that fails is counted and ends the call. Files and input are left alone where the words ask for none, and the
+  -- input where the file is refused.
+  pub record ReadsInOrder (answer : Answer) : Type 0 where
+    pub fault : answer ≡ ReadFault → FileFails ⊎ InputFails
+    pub counted : answer ≢ ReadFault → (f.faults files' ≡ f.faults files) × (i.faults input' ≡ i.faults input)
+    pub no_file : reads_file request ≡ false → files' ≡ files
+    pub no_input : reads_input request ≡ false → input' ≡ input
+    pub early : IsRefusedEarly answer → input' ≡ input

@@ -30,29 +30,29 @@ report rows count e = rows_text rows ++ (totals_line (totals_of rows count) ++ e
 
 -- ---- the report of a program
 
--- a verdict and a row of the theory, as they are told
-abbrev pub told_verdict : CoreVerdict Difference → Verdict
-told_verdict CoreKept = Kept
-told_verdict (CoreDiffers d) = Differs d
-told_verdict CoreStopped = Stopped
-told_verdict CoreLate = Late
+-- a verdict and a row of the theory, as they are reported
+abbrev pub reported_verdict : CoreVerdict Difference → Verdict
+reported_verdict CoreKept = Kept
+reported_verdict (CoreDiffers d) = Differs d
+reported_verdict CoreStopped = Stopped
+reported_verdict CoreLate = Late
 
-abbrev pub told_row : LedgerRow Difference → Row
-told_row r = record { number = r.number; at = r.at; pc = r.pc; original = r.original; fast = r.judged.fast; verdict = told_verdict r.judged.verdict }
+abbrev pub reported_row : LedgerRow Difference → Row
+reported_row r = record { number = r.number; at = r.at; pc = r.pc; original = r.original; fast = r.judged.fast; verdict = reported_verdict r.judged.verdict }
 
--- the ledger of the program with this input, within this budget, as it is told
-abbrev pub told_ledger : Image → List ℕ → ℕ → List Row
-told_ledger i input budget = map told_row (ledger (rv32 input) (start_of i) budget)
+-- the ledger of the program with this input, within this budget, as it is reported
+abbrev pub reported_ledger : Image → List ℕ → ℕ → List Row
+reported_ledger i input budget = map reported_row (ledger (rv32 input) (start_of i) budget)
 
 -- the ledger, the totals and the end of the program alone with this input, within this budget
 unfoldable pub program_report : Image → List ℕ → ℕ → List ℕ
 program_report i input budget =
-    report (told_ledger i input budget) (program_alone i input budget).count (end_of (program_alone i input budget).end)
+    report (reported_ledger i input budget) (program_alone i input budget).count (end_of (program_alone i input budget).end)
 
 -- the summary of a bench: the totals, the number of bytes that the program alone writes, and its end
 unfoldable pub bench_report : ℕ → Image → List ℕ → ℕ → List ℕ
 bench_report number i input budget =
-    bench_lines number (totals_of (told_ledger i input budget) (program_alone i input budget).count)
+    bench_lines number (totals_of (reported_ledger i input budget) (program_alone i input budget).count)
     (length (output_of (program_alone i input budget))) (end_of (program_alone i input budget).end)
 
 -- ---- the journal

@@ -1,64 +1,48 @@
--- What the parts of a call answer before the answer's line is told, and what becomes of a history then
-use Rattle.std.specs.Prelude.{◌≡◌, ℕ, Bool, true, false, if◌then◌else◌, List, [], ◌∷◌, ◌++◌, Option, Some, None}
+-- How far the plan of a call is kept, up to the line of its answer
+use Rattle.std.specs.Prelude.{◌≡◌, if◌then◌else◌, List, Option, Some, None, ◌⊎◌}
 use Rattle.speculation.specs.declared.history.Entry.{Entry}
-use Rattle.guest_model.specs.declared.end.End.{End}
-use Rattle.guest_model.specs.declared.end.End.TheVariants as E
-use Rattle.guest_streams.specs.GuestStreams.{Sinks}
-use Rattle.guest_streams.specs.declared.fault.OutputFault.{OutputFault}
-use Rattle.guest_streams.specs.declared.fault.OutputFault.TheVariants as F
+use Rattle.guest_streams.specs.GuestStreams.{Sinks, GetsAll, GetsPart, StopsShort}
 use Rattle.program_words.specs.CommandLine.{Request}
-use Rattle.program_words.specs.declared.request.Task.{Task}
-use Rattle.fasttrack_program.specs.Plan.{Plan}
-use Rattle.fasttrack_program.specs.TopCall.{HasHistoryOf, Serves, IsServed, hands_out}
+use Rattle.fasttrack_program.specs.Plan.{Found, Plan, Refused, Does, plan}
+use Rattle.fasttrack_program.specs.Promise.{Given, Promise, IsHistory}
+use Rattle.fasttrack_program.specs.Reading.{Known, AgreesWith}
 use Rattle.fasttrack_program.specs.declared.answer.Answer.{Answer}
-use Rattle.fasttrack_program.specs.declared.answer.Answer.TheVariants.{Exited, Trapped, Spent, Shown, WriteFault, NoMemory}
+use Rattle.fasttrack_program.specs.declared.answer.Answer.TheVariants.{ReadFault, WriteFault, NoMemory}
 use Rattle.fasttrack_program.specs.declared.served.Served.{Served}
-
--- the answer of a task that ends as the guest does
-abbrev pub answer_of : End → Answer
-answer_of (E.Exit code) = Exited code
-answer_of (E.Trap trap pc) = Trapped trap pc
-answer_of E.Spent = Spent
-
--- the answer of a task whose output could not be written
-abbrev pub answer_of_fault : OutputFault → Answer
-answer_of_fault F.Write = WriteFault
-answer_of_fault F.NoMemory = NoMemory
 
 -- an answer without a history
 abbrev pub plainly : Answer → Served
 plainly a = record { answer = a; history = None }
 
--- the history that goes with an answer
-abbrev pub handed : Task → Answer → List Entry → Option (List Entry)
-handed task answer entries = if hands_out task answer then Some entries else None
+-- the answer of a promise that is kept whole, with its history
+abbrev pub wholly : Promise → Given → List Entry → Served
+wholly p g entries = record { answer = p.answer g; history = if p.has_tracks then Some entries else None }
 
-abbrev pub handed_by : Option Request → Answer → List Entry → Option (List Entry)
-handed_by None answer entries = None
-handed_by (Some r) answer entries = handed r.task answer entries
+-- How far a promise was kept: whole; or up to a byte that could not be written, since the sink of that byte failed; or up
+-- to some byte, since memory ran out.
+abbrev pub IsKept : Promise → Given → List Entry → Sinks → Sinks → Served → Type 0
+IsKept p g entries old new s =
+    ((s ≡ wholly p g entries) × GetsAll old new (p.writes g entries))
+    ⊎ ((s ≡ plainly WriteFault) × StopsShort old new (p.writes g entries))
+    ⊎ ((s ≡ plainly NoMemory) × GetsPart old new (p.writes g entries))
 
--- A plan was done: its history is of these entries, and they go with the answer where it hands them out.
-pub record IsDone (task : Task) (p : Plan) (old new : Sinks) (s : Served) : Type 0 where
+-- the same with some entries, which are the history of the task
+pub record KeepsPromise (p : Promise) (g : Given) (old new : Sinks) (s : Served) : Type 0 where
   pub entries : List Entry
-  pub history : HasHistoryOf p entries
-  pub serves : Serves p entries old new s.answer
-  pub handed : s.history ≡ handed task s.answer entries
+  pub history : IsHistory p.has_tracks g entries
+  pub kept : IsKept p g entries old new s
 
--- a call was served, and the history of its plan goes with the answer where that hands it out
-pub record IsServedWith (request : Option Request) (told_file told_input : Option (List ℕ)) (old new : Sinks) (s : Served) : Type 0 where
-  pub entries : List Entry
-  pub served : IsServed request told_file told_input old new entries s.answer
-  pub handed : s.history ≡ handed_by request s.answer entries
+-- a call that is refused writes nothing
+abbrev pub Keeps : Plan → Sinks → Sinks → Served → Type 0
+Keeps (Refused answer) old new s = (s ≡ plainly answer) × (new ≡ old)
+Keeps (Does p g) old new s = KeepsPromise p g old new s
 
--- the answers with which a task has done all that it was to do
-abbrev pub completes : Answer → Bool
-completes (Exited code) = true
-completes (Trapped trap pc) = true
-completes Spent = true
-completes Shown = true
-completes _ = false
+-- a read failed, or memory ran out before the task was begun: nothing was written
+abbrev pub IsStopped : Sinks → Sinks → Served → Type 0
+IsStopped old new s = ((s ≡ plainly ReadFault) ⊎ (s ≡ plainly NoMemory)) × (new ≡ old)
 
--- histories, with one more where there is one and the answer, as it was told, still completes the task
-abbrev pub with_history : List (List Entry) → Option (List Entry) → Answer → List (List Entry)
-with_history old None answer = old
-with_history old (Some entries) answer = if completes answer then old ++ (entries ∷ []) else old
+-- The plan was kept for some file and some input, which are those that are known, where they are known.
+pub record IsServed (request : Option Request) (known : Known) (old new : Sinks) (s : Served) : Type 0 where
+  pub found : Found
+  pub agrees : AgreesWith known found
+  pub keeps : IsStopped old new s ⊎ Keeps (plan request found) old new s

@@ -2,10 +2,11 @@
 use Rattle.std.specs.Prelude.{◌≡◌, ℕ, ◌<◌, List, ◌++◌, length, Option, Result, Ok, Err}
 use Rattle.std.specs.Io.KnownBytes.{Appends}
 use Rattle.host_io.specs.Faults.{Rose}
+use Rattle.host_io.specs.declared.sink.Sink.{Ghosts as SinkRow}
 use Rattle.guest_streams.specs.declared.fault.OutputFault.{OutputFault}
 use Rattle.guest_streams.specs.declared.fault.OutputFault.TheVariants.{Write, NoMemory}
 
--- the sink got a beginning of the text, where it tells
+-- the sink got a beginning of the text, where its bytes are known
 pub record GotBeginning (old new : Option (List ℕ)) (text : List ℕ) : Type 0 where
   pub got : List ℕ
   pub rest : List ℕ
@@ -22,3 +23,7 @@ abbrev pub WritesText : {T : Type 0} → (old new : Option (List ℕ)) → (faul
 WritesText old new faults faults' text (Ok _) = Appends old new text × (faults' ≡ faults)
 WritesText old new faults faults' text (Err Write) = StoppedInText old new text × Rose faults faults'
 WritesText old new faults faults' text (Err NoMemory) = GotBeginning old new text × (faults' ≡ faults)
+
+-- the same of a sink; in a clause `O.Sink` is the row of its bound
+abbrev pub WritesOn : {O T : Type 0} → SinkRow O → O → O → List ℕ → Result T OutputFault → Type 0
+WritesOn sink old new text r = WritesText (sink.contents old) (sink.contents new) (sink.faults old) (sink.faults new) text r

@@ -7,7 +7,7 @@ ghost use Rattle.guest_model.specs.Flat.{flat_bytes};
 ghost use Rattle.guest_model.specs.Rv32.{rv32};
 ghost use Rattle.speculation.specs.Record.{alone};
 ghost use Rattle.speculation.specs.Run.{marked};
-ghost use Rattle.guest_streams.specs.GuestStreams.{Leaves, PassesOn};
+ghost use Rattle.guest_streams.specs.GuestStreams.{Leaves, PassesOn, sinks_of};
 
 use guest_model::{End, FlatMemory, Memory, NoMemory, State};
 use guest_streams::{OutputFault, write_piece};
@@ -30,9 +30,7 @@ pub fn run_alone<O: Sink, N: Sink>(
 ) -> Result<End, OutputFault>
     requires { state.old.place ≤ length input.now }
     ensures { Leaves (alone (rv32 input.now) (flat flat_bytes state.old) budget)
-        (record { out = O.contents out.old; out_faults = O.faults out.old; notes = N.contents notes.old; notes_faults = N.faults notes.old })
-        (record { out = O.contents out.new; out_faults = O.faults out.new; notes = N.contents notes.new; notes_faults = N.faults notes.new })
-        result }
+        (sinks_of O.Sink N.Sink out.old notes.old) (sinks_of O.Sink N.Sink out.new notes.new) result }
 {
     let mut buffer = Vec::new(alloc);
     for _done in 0..budget {
@@ -67,9 +65,7 @@ fn pass_on<O: Sink, N: Sink>(
     requires mapped { IsTrue (mapped (flat_bytes memory.now) at count) }
     requires stream { (stream ≡ 1) ⊎ (stream ≡ 2) }
     ensures { PassesOn
-        (record { out = O.contents out.old; out_faults = O.faults out.old; notes = N.contents notes.old; notes_faults = N.faults notes.old })
-        (record { out = O.contents out.new; out_faults = O.faults out.new; notes = N.contents notes.new; notes_faults = N.faults notes.new })
-        (marked stream (bytes_from (flat_bytes memory.now) at count)) result }
+        (sinks_of O.Sink N.Sink out.old notes.old) (sinks_of O.Sink N.Sink out.new notes.new) (marked stream (bytes_from (flat_bytes memory.now) at count)) result }
 {
     match load_piece(memory, at, count, buffer) {
         Err(NoMemory) => Err(OutputFault::NoMemory),

@@ -1,8 +1,7 @@
 //! What the program answers, and its exit status.
 
 ghost use Rattle.std.specs.Prelude.{◌≡◌};
-ghost use Rattle.fasttrack_program.specs.Serving.{answer_of, answer_of_fault};
-ghost use Rattle.fasttrack_program.specs.Status.{status_of};
+ghost use Rattle.fasttrack_program.specs.Answers.{answer_of, answer_of_fault, status_of};
 
 use elf32_loader::ImageFault;
 use guest_model::{End, Trap};

@@ -1,7 +1,7 @@
-//! The line on notes that tells an answer.
+//! The line on notes for an answer.
 
 ghost use Rattle.std.specs.Prelude.{◌≡◌, ◌≤◌, IfOk, Some, codes, string_bytes};
-ghost use Rattle.fasttrack_program.specs.AnswerLine.{as_line, line_of, TellsLine, Concludes};
+ghost use Rattle.fasttrack_program.specs.AnswerLine.{as_line, line_of, WritesLine, Concludes};
 
 use crate::answer::Answer;
 use crate::fault_text::FaultText;
@@ -11,7 +11,8 @@ use host_io::{Failed, Sink, write_whole};
 use report_text::{Address, trap_name};
 use std::alloc::Global;
 
-/// Tells an answer on `notes`, and gives what the call answers: the same, or WriteFault where the line of a guest's end
+/// Writes the line of an answer on `notes`, and gives what the call answers: the same, or WriteFault where the line of a
+/// guest's end
 /// could not be written.
 pub fn conclude<N: Sink>(alloc: Global, answer: Answer, notes: &mut N) -> Answer
     ensures { Concludes (N.contents notes.old) (N.contents notes.new) (N.faults notes.old) (N.faults notes.new) answer result }
@@ -20,33 +21,33 @@ pub fn conclude<N: Sink>(alloc: Global, answer: Answer, notes: &mut N) -> Answer
         Answer::Exited(_) => answer,
         Answer::Shown => answer,
         Answer::Trapped(trap, pc) => match trap_line(alloc, trap, pc) {
-            Ok(line) => tell(notes, answer, line.as_str()),
-            Err(NoMemory) => tell_no_memory(notes),
+            Ok(line) => write_line(notes, answer, line.as_str()),
+            Err(NoMemory) => write_no_memory(notes),
         },
         Answer::BadImage(fault) => match fault_line(alloc, fault) {
-            Ok(line) => tell(notes, answer, line.as_str()),
-            Err(NoMemory) => tell_no_memory(notes),
+            Ok(line) => write_line(notes, answer, line.as_str()),
+            Err(NoMemory) => write_no_memory(notes),
         },
-        Answer::Spent => tell(notes, answer, "fasttrack: budget spent\n"),
-        Answer::Usage => tell(notes, answer, "fasttrack: bad words\n"),
-        Answer::ReadFault => tell(notes, answer, "fasttrack: read failed\n"),
-        Answer::ImageTooLong => tell(notes, answer, "fasttrack: image too long\n"),
-        Answer::InputTooLong => tell(notes, answer, "fasttrack: input too long\n"),
-        Answer::WriteFault => tell(notes, answer, "fasttrack: write failed\n"),
-        Answer::NoMemory => tell_no_memory(notes),
+        Answer::Spent => write_line(notes, answer, "fasttrack: budget spent\n"),
+        Answer::Usage => write_line(notes, answer, "fasttrack: bad words\n"),
+        Answer::ReadFault => write_line(notes, answer, "fasttrack: read failed\n"),
+        Answer::ImageTooLong => write_line(notes, answer, "fasttrack: image too long\n"),
+        Answer::InputTooLong => write_line(notes, answer, "fasttrack: input too long\n"),
+        Answer::WriteFault => write_line(notes, answer, "fasttrack: write failed\n"),
+        Answer::NoMemory => write_no_memory(notes),
     }
 }
 
-/// Tells that memory ran out.
-fn tell_no_memory<N: Sink>(notes: &mut N) -> Answer
-    ensures { TellsLine (N.contents notes.old) (N.contents notes.new) (N.faults notes.old) (N.faults notes.new) Answer.NoMemory result (as_line (codes "no memory")) }
+/// Writes the line for want of memory.
+fn write_no_memory<N: Sink>(notes: &mut N) -> Answer
+    ensures { WritesLine (N.contents notes.old) (N.contents notes.new) (N.faults notes.old) (N.faults notes.new) Answer.NoMemory result (as_line (codes "no memory")) }
 {
-    tell(notes, Answer::NoMemory, "fasttrack: no memory\n")
+    write_line(notes, Answer::NoMemory, "fasttrack: no memory\n")
 }
 
 /// Writes the line of an answer, and gives what the call answers then.
-fn tell<N: Sink>(notes: &mut N, answer: Answer, line: &str) -> Answer
-    ensures { TellsLine (N.contents notes.old) (N.contents notes.new) (N.faults notes.old) (N.faults notes.new) answer result line.now }
+fn write_line<N: Sink>(notes: &mut N, answer: Answer, line: &str) -> Answer
+    ensures { WritesLine (N.contents notes.old) (N.contents notes.new) (N.faults notes.old) (N.faults notes.new) answer result line.now }
 {
     match write_whole(notes, line.as_bytes()) {
         Ok(()) => answer,

@@ -4,7 +4,8 @@ ghost use Rattle.std.specs.Prelude.{◌≡◌, List, [], IfOk, IfSome};
 ghost use Rattle.speculation.specs.declared.history.Entry.{Entry};
 ghost use Rattle.track_board.specs.Value.{IsSettings};
 ghost use Rattle.serial_run.specs.Conducting.{IsWhole};
-ghost use Rattle.fasttrack_program.specs.TopCall.{settings_of};
+ghost use Rattle.fasttrack_program.specs.Promise.{settings_of};
+ghost use Rattle.guest_streams.specs.GuestStreams.{sinks_of};
 ghost use Rattle.fasttrack_program.specs.Tracks.{board_for, RunsTracks};
 
 use crate::options::Options;
@@ -27,9 +28,7 @@ pub fn run_tracks<O: Sink, N: Sink>(
 ) -> Conducted
     requires { IsSettings (settings_of options.now) }
     ensures { RunsTracks loaded.now input options.now
-        (record { out = O.contents out.old; out_faults = O.faults out.old; notes = N.contents notes.old; notes_faults = N.faults notes.old })
-        (record { out = O.contents out.new; out_faults = O.faults out.new; notes = N.contents notes.new; notes_faults = N.faults notes.new })
-        result }
+        (sinks_of O.Sink N.Sink out.old notes.old) (sinks_of O.Sink N.Sink out.new notes.new) result }
 {
     match make_board(alloc, loaded, input, options) {
         Ok(mut board) => conduct_serial(&mut board, out, notes),

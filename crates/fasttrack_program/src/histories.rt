@@ -1,8 +1,8 @@
 //! The histories that calls of the program hand out.
 
-ghost use Rattle.std.specs.Prelude.{◌≡◌, ◌<◌, true, IsSome, OnOk, vec_len, vec_capacity};
-ghost use Rattle.fasttrack_program.specs.Serving.{with_history};
-ghost use Rattle.fasttrack_program.specs.TopCall.{has_tracks};
+ghost use Rattle.std.specs.Prelude.{◌≡◌, ◌<◌, IsSome, IsTrue, OnOk, vec_len, vec_capacity};
+ghost use Rattle.fasttrack_program.specs.Promise.{promise_of};
+ghost use Rattle.fasttrack_program.specs.TopCall.{with_history};
 
 use crate::answer::Answer;
 use board_events::Entries;
@@ -46,21 +46,31 @@ impl Histories {
     }
 }
 
+/// Whether a task is done with tracks, whose history is handed out.
+pub fn has_tracks(task: Task) -> bool
+    ensures { result ≡ (promise_of task).has_tracks }
+{
+    match task {
+        Task::Alone | Task::Trial => false,
+        Task::Run | Task::Bench(_) => true,
+    }
+}
+
 /// Makes room for the history of a task that has one, so that handing it out takes no memory.
 ///
 /// # Errors
 /// `NoMemory` where there is no room.
 pub fn make_room(histories: &mut Vec<Entries>, task: Task) -> Result<(), NoMemory>
     ensures items { histories.new.items ≡ histories.old.items }
-    ensures room { OnOk result (has_tracks task ≡ true → vec_len histories.new < vec_capacity histories.new) }
+    ensures room { OnOk result (IsTrue (promise_of task).has_tracks → vec_len histories.new < vec_capacity histories.new) }
 {
-    match task {
-        Task::Alone | Task::Trial => Ok(()),
-        Task::Run | Task::Bench(_) => Ok(histories.reserve(1)?),
+    if !has_tracks(task) {
+        return Ok(());
     }
+    Ok(histories.reserve(1)?)
 }
 
-/// Adds a history, if there is one and the answer, as it was told, completes its task. It takes no memory.
+/// Adds a history, if there is one and the call's answer still is that of a task that was done. It takes no memory.
 pub fn hand_out(histories: &mut Vec<Entries>, history: Option<Entries>, answer: Answer)
     requires room { IsSome history → vec_len histories.old < vec_capacity histories.old }
     ensures { histories.new.items ≡ with_history histories.old.items history answer }

@@ -3,7 +3,7 @@
 ghost use Rattle.std.specs.Prelude.{◌++◌, ◌∷◌, []};
 ghost use Rattle.board_events.specs.Texts.{text_of};
 ghost use Rattle.fasttrack_program.specs.Reports.{journal_text};
-ghost use Rattle.fasttrack_program.specs.TextOnSink.{WritesText};
+ghost use Rattle.fasttrack_program.specs.TextOnSink.{WritesOn};
 
 use crate::texts::write_made;
 use board_events::{Entry, entry_text};
@@ -21,7 +21,7 @@ pub fn write_journal<N: Sink>(
     entries: &[Entry],
     notes: &mut N,
 ) -> Result<(), OutputFault>
-    ensures { WritesText (N.contents notes.old) (N.contents notes.new) (N.faults notes.old) (N.faults notes.new) (journal_text entries.now) result }
+    ensures { WritesOn N.Sink notes.old notes.new (journal_text entries.now) result }
 {
     for entry in entries {
         write_entry(alloc, entry, notes)?;
@@ -31,7 +31,7 @@ pub fn write_journal<N: Sink>(
 
 /// Writes the line of an entry.
 fn write_entry<N: Sink>(alloc: Global, entry: &Entry, notes: &mut N) -> Result<(), OutputFault>
-    ensures { WritesText (N.contents notes.old) (N.contents notes.new) (N.faults notes.old) (N.faults notes.new) (text_of entry.now ++ 10 ∷ []) result }
+    ensures { WritesOn N.Sink notes.old notes.new (text_of entry.now ++ 10 ∷ []) result }
 {
     write_made(entry_text(alloc, entry), notes)
 }

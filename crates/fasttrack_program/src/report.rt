@@ -5,7 +5,7 @@ ghost use Rattle.speculation.specs.Ledger.{originals};
 ghost use Rattle.region_ledger.specs.Ledger.{ledger_rows, SavesAtMostAll};
 ghost use Rattle.report_text.specs.Reports.{row_line, totals_line, end_line};
 ghost use Rattle.fasttrack_program.specs.Reports.{report, rows_text};
-ghost use Rattle.fasttrack_program.specs.TextOnSink.{WritesText};
+ghost use Rattle.fasttrack_program.specs.TextOnSink.{WritesOn};
 
 use crate::texts::write_made;
 use guest_model::End;
@@ -28,7 +28,7 @@ pub fn write_report<O: Sink>(
 ) -> Result<(), OutputFault>
     requires inside { originals (ledger_rows rows.now) ≤ finished.now.count }
     requires saves { All SavesAtMostAll rows.now }
-    ensures { WritesText (O.contents out.old) (O.contents out.new) (O.faults out.old) (O.faults out.new) (report rows.now finished.now.count finished.now.end) result }
+    ensures { WritesOn O.Sink out.old out.new (report rows.now finished.now.count finished.now.end) result }
 {
     write_rows(alloc, rows, out)?;
     write_totals(alloc, &totals(rows, finished.count), out)?;
@@ -37,7 +37,7 @@ pub fn write_report<O: Sink>(
 
 /// Writes the lines of these rows.
 fn write_rows<O: Sink>(alloc: Global, rows: &[Row], out: &mut O) -> Result<(), OutputFault>
-    ensures { WritesText (O.contents out.old) (O.contents out.new) (O.faults out.old) (O.faults out.new) (rows_text rows.now) result }
+    ensures { WritesOn O.Sink out.old out.new (rows_text rows.now) result }
 {
     for row in rows {
         write_row(alloc, row, out)?;
@@ -47,21 +47,21 @@ fn write_rows<O: Sink>(alloc: Global, rows: &[Row], out: &mut O) -> Result<(), O
 
 /// Writes the line of a row.
 fn write_row<O: Sink>(alloc: Global, row: &Row, out: &mut O) -> Result<(), OutputFault>
-    ensures { WritesText (O.contents out.old) (O.contents out.new) (O.faults out.old) (O.faults out.new) (row_line row.now) result }
+    ensures { WritesOn O.Sink out.old out.new (row_line row.now) result }
 {
     write_made(row_text(alloc, row), out)
 }
 
 /// Writes the line of the totals.
 fn write_totals<O: Sink>(alloc: Global, totals: &Totals, out: &mut O) -> Result<(), OutputFault>
-    ensures { WritesText (O.contents out.old) (O.contents out.new) (O.faults out.old) (O.faults out.new) (totals_line totals.now) result }
+    ensures { WritesOn O.Sink out.old out.new (totals_line totals.now) result }
 {
     write_made(totals_text(alloc, totals), out)
 }
 
 /// Writes the line of the end.
 fn write_end<O: Sink>(alloc: Global, end: &End, out: &mut O) -> Result<(), OutputFault>
-    ensures { WritesText (O.contents out.old) (O.contents out.new) (O.faults out.old) (O.faults out.new) (end_line end.now) result }
+    ensures { WritesOn O.Sink out.old out.new (end_line end.now) result }
 {
     write_made(end_text(alloc, end), out)
 }

@@ -1,19 +1,19 @@
 //! The task `bench`: a program for benches, run with tracks, and the summary of it.
 
-ghost use Rattle.std.specs.Prelude.{◌≡◌, ℕ, ◌≤◌, ◌<◌, ◌^◌, All, List, Option, Ok, IfOk};
+ghost use Rattle.std.specs.Prelude.{◌≡◌, ◌≤◌, ◌<◌, ◌^◌, All, Ok, IfOk};
 ghost use Rattle.speculation.specs.Ledger.{originals};
 ghost use Rattle.guest_model.specs.Image.{image};
 ghost use Rattle.elf32_loader.specs.LoadedImage.{image_of_loaded};
-ghost use Rattle.program_words.specs.declared.request.Task.TheVariants.{Bench};
 ghost use Rattle.region_ledger.specs.Ledger.{ledger_rows, totals_of, SavesAtMostAll};
 ghost use Rattle.report_text.specs.Reports.{bench_lines};
 ghost use Rattle.rv32_asm.specs.Generated.{generated};
 ghost use Rattle.track_board.specs.Value.{IsSettings};
 ghost use Rattle.serial_run.specs.Conducting.{released_total};
+ghost use Rattle.guest_streams.specs.GuestStreams.{Sinks, with_out};
 ghost use Rattle.fasttrack_program.specs.Plan.{bench_plan, bench_regions};
-ghost use Rattle.fasttrack_program.specs.Serving.{IsDone};
-ghost use Rattle.fasttrack_program.specs.TextOnSink.{WritesText};
-ghost use Rattle.fasttrack_program.specs.TopCall.{settings_of};
+ghost use Rattle.fasttrack_program.specs.Promise.{settings_of};
+ghost use Rattle.fasttrack_program.specs.Serving.{Keeps};
+ghost use Rattle.fasttrack_program.specs.TextOnSink.{WritesOn};
 
 use crate::answer::{Answer, answer_of_fault};
 use crate::boards::run_counted;
@@ -39,11 +39,8 @@ pub fn show_bench<O: Sink>(alloc: Global, number: u32, options: &Options, out: &
     requires { IsSettings (settings_of options.now) }
 
     // Whatever notes hold, they are left alone.
-    ensures done { (notes : Option (List ℕ)) → (faults : ℕ) → IsDone (Bench number) (bench_plan number options.now)
-        (record { out = O.contents out.old; out_faults = O.faults out.old; notes = notes; notes_faults = faults })
-        (record { out = O.contents out.new; out_faults = O.faults out.new; notes = notes; notes_faults = faults })
-        result }
-    ensures reads_nothing { result.answer ≡ Answer.ReadFault → ⊥ }
+    ensures { (s : Sinks) → Keeps (bench_plan number options.now)
+        (with_out O.Sink out.old s) (with_out O.Sink out.new s) result }
 {
     let Ok(loaded) = load_bench(alloc, number) else {
         return plain(Answer::NoMemory);
@@ -106,8 +103,7 @@ fn write_summary<O: Sink>(
     requires inside { originals (ledger_rows rows.now) ≤ finished.now.count }
     requires saves { All SavesAtMostAll rows.now }
     requires size { released_total entries.now < 2 ^ 64 }
-    ensures { WritesText (O.contents out.old) (O.contents out.new) (O.faults out.old) (O.faults out.new)
-        (bench_lines number (totals_of rows.now finished.now.count) (released_total entries.now) finished.now.end) result }
+    ensures { WritesOn O.Sink out.old out.new (bench_lines number (totals_of rows.now finished.now.count) (released_total entries.now) finished.now.end) result }
 {
     let totals = totals(rows, finished.count);
     let text = bench_text(

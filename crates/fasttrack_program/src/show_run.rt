@@ -1,16 +1,16 @@
 //! The task `run`: the guest with tracks, and the texts behind its output.
 
-ghost use Rattle.std.specs.Prelude.{◌≡◌, ◌≤◌, All};
+ghost use Rattle.std.specs.Prelude.{◌≤◌, All};
 ghost use Rattle.speculation.specs.Ledger.{originals};
-ghost use Rattle.elf32_loader.specs.LoadedImage.{image_of_loaded};
 ghost use Rattle.program_words.specs.declared.request.Task.TheVariants.{Run};
 ghost use Rattle.region_ledger.specs.Ledger.{ledger_rows, SavesAtMostAll};
 ghost use Rattle.track_board.specs.Value.{IsSettings};
-ghost use Rattle.fasttrack_program.specs.Plan.{Runs};
+ghost use Rattle.guest_streams.specs.GuestStreams.{sinks_of};
+ghost use Rattle.fasttrack_program.specs.Promise.{promise_of, settings_of};
 ghost use Rattle.fasttrack_program.specs.Reports.{asked_report, asked_journal, asked_texts};
-ghost use Rattle.fasttrack_program.specs.Serving.{IsDone};
-ghost use Rattle.fasttrack_program.specs.TextOnSink.{WritesText};
-ghost use Rattle.fasttrack_program.specs.TopCall.{settings_of};
+ghost use Rattle.fasttrack_program.specs.Serving.{KeepsPromise};
+ghost use Rattle.fasttrack_program.specs.TextOnSink.{WritesOn};
+ghost use Rattle.fasttrack_program.specs.Tracks.{given_of};
 
 use crate::answer::{Answer, answer_of, answer_of_fault};
 use crate::boards::run_tracks;
@@ -38,11 +38,8 @@ pub fn show_run<O: Sink, N: Sink>(
     notes: &mut N,
 ) -> Served
     requires { IsSettings (settings_of options.now) }
-    ensures done { IsDone Run (Runs Run (image_of_loaded loaded.now) input options.now)
-        (record { out = O.contents out.old; out_faults = O.faults out.old; notes = N.contents notes.old; notes_faults = N.faults notes.old })
-        (record { out = O.contents out.new; out_faults = O.faults out.new; notes = N.contents notes.new; notes_faults = N.faults notes.new })
-        result }
-    ensures reads_nothing { result.answer ≡ Answer.ReadFault → ⊥ }
+    ensures { KeepsPromise (promise_of Run) (given_of loaded.now input options.now)
+        (sinks_of O.Sink N.Sink out.old notes.old) (sinks_of O.Sink N.Sink out.new notes.new) result }
 {
     let outcome = match run_tracks(alloc, loaded, input, options, out, notes) {
         Conducted::Done(outcome) => outcome,
@@ -88,8 +85,7 @@ fn write_texts<N: Sink>(
 ) -> Result<(), OutputFault>
     requires inside { originals (ledger_rows rows.now) ≤ finished.now.count }
     requires saves { All SavesAtMostAll rows.now }
-    ensures { WritesText (N.contents notes.old) (N.contents notes.new) (N.faults notes.old) (N.faults notes.new)
-        (asked_texts options.now rows.now finished.now entries.now) result }
+    ensures { WritesOn N.Sink notes.old notes.new (asked_texts options.now rows.now finished.now entries.now) result }
 {
     write_asked_report(alloc, options, rows, finished, notes)?;
     write_asked_journal(alloc, options, entries, notes)
@@ -105,8 +101,7 @@ fn write_asked_report<N: Sink>(
 ) -> Result<(), OutputFault>
     requires inside { originals (ledger_rows rows.now) ≤ finished.now.count }
     requires saves { All SavesAtMostAll rows.now }
-    ensures { WritesText (N.contents notes.old) (N.contents notes.new) (N.faults notes.old) (N.faults notes.new)
-        (asked_report options.now rows.now finished.now) result }
+    ensures { WritesOn N.Sink notes.old notes.new (asked_report options.now rows.now finished.now) result }
 {
     if !options.report {
         return Ok(());
@@ -121,8 +116,7 @@ fn write_asked_journal<N: Sink>(
     entries: &[Entry],
     notes: &mut N,
 ) -> Result<(), OutputFault>
-    ensures { WritesText (N.contents notes.old) (N.contents notes.new) (N.faults notes.old) (N.faults notes.new)
-        (asked_journal options.now entries.now) result }
+    ensures { WritesOn N.Sink notes.old notes.new (asked_journal options.now entries.now) result }
 {
     if !options.journal {
         return Ok(());

@@ -1,14 +1,16 @@
 //! The task `trial`: the report of an image's regions.
 
-ghost use Rattle.std.specs.Prelude.{◌≡◌, ℕ, ◌≤◌, ◌^◌, List, [], Option};
-ghost use Rattle.elf32_loader.specs.LoadedImage.{image_of_loaded};
+ghost use Rattle.std.specs.Prelude.{◌≤◌, ◌^◌};
+ghost use Rattle.guest_streams.specs.GuestStreams.{Sinks, with_out};
 ghost use Rattle.program_words.specs.declared.request.Task.TheVariants.{Trial};
-ghost use Rattle.fasttrack_program.specs.Plan.{Runs};
-ghost use Rattle.fasttrack_program.specs.TopCall.{Serves};
-ghost use Rattle.fasttrack_program.specs.declared.options.Options.{Options};
+ghost use Rattle.fasttrack_program.specs.Promise.{promise_of};
+ghost use Rattle.fasttrack_program.specs.Serving.{KeepsPromise};
+ghost use Rattle.fasttrack_program.specs.Tracks.{given_of};
 
 use crate::answer::{Answer, answer_of_fault};
+use crate::options::Options;
 use crate::report::write_report;
+use crate::served::{Served, plain};
 use elf32_loader::Loaded;
 use host_io::Sink;
 use region_trial::run_trial;
@@ -20,23 +22,20 @@ pub fn show_trial<O: Sink>(
     alloc: Global,
     loaded: &Loaded,
     input: &[u8],
-    budget: u64,
+    options: &Options,
     out: &mut O,
-) -> Answer
-    requires within { budget ≤ 2 ^ 40 }
+) -> Served
+    requires within { options.now.budget ≤ 2 ^ 40 }
 
     // Whatever notes hold, they are left alone.
-    ensures serves { (options : Options) → options.budget ≡ budget → (notes : Option (List ℕ)) → (faults : ℕ) → Serves (Runs Trial (image_of_loaded loaded.now) input.now options) []
-        (record { out = O.contents out.old; out_faults = O.faults out.old; notes = notes; notes_faults = faults })
-        (record { out = O.contents out.new; out_faults = O.faults out.new; notes = notes; notes_faults = faults })
-        result }
-    ensures reads_nothing { result ≡ Answer.ReadFault → ⊥ }
+    ensures { (s : Sinks) → KeepsPromise (promise_of Trial) (given_of loaded.now input.now options.now)
+        (with_out O.Sink out.old s) (with_out O.Sink out.new s) result }
 {
-    let Ok(trial) = run_trial(alloc, loaded, input, budget) else {
-        return Answer::NoMemory;
+    let Ok(trial) = run_trial(alloc, loaded, input, options.budget) else {
+        return plain(Answer::NoMemory);
     };
     match write_report(alloc, trial.rows.as_slice(), &trial.finished, out) {
-        Ok(()) => Answer::Shown,
-        Err(fault) => answer_of_fault(fault),
+        Ok(()) => plain(Answer::Shown),
+        Err(fault) => plain(answer_of_fault(fault)),
     }
 }

@@ -1,7 +1,7 @@
 //! Texts on one sink.
 
 ghost use Rattle.std.specs.Prelude.{◌≡◌, ℕ, List, IfOk, string_bytes};
-ghost use Rattle.fasttrack_program.specs.TextOnSink.{WritesText};
+ghost use Rattle.fasttrack_program.specs.TextOnSink.{WritesOn};
 
 use guest_model::NoMemory;
 use guest_streams::OutputFault;
@@ -12,7 +12,7 @@ use host_io::{Failed, Sink, write_whole};
 /// # Errors
 /// `Write` where the sink failed. It has a beginning of the text then.
 pub fn write_text<O: Sink>(text: &str, out: &mut O) -> Result<(), OutputFault>
-    ensures { WritesText (O.contents out.old) (O.contents out.new) (O.faults out.old) (O.faults out.new) text.now result }
+    ensures { WritesOn O.Sink out.old out.new text.now result }
 {
     match write_whole(out, text.as_bytes()) {
         Ok(()) => Ok(()),
@@ -26,7 +26,7 @@ pub fn write_text<O: Sink>(text: &str, out: &mut O) -> Result<(), OutputFault>
 /// `Write` where the sink failed, which has a beginning of the text then, and `NoMemory` where there was no room for the
 /// text, of which nothing is written then.
 pub fn write_made<O: Sink>(made: Result<String, NoMemory>, out: &mut O) -> Result<(), OutputFault>
-    ensures { (text : List ℕ) → IfOk made (λ line. string_bytes line ≡ text) → WritesText (O.contents out.old) (O.contents out.new) (O.faults out.old) (O.faults out.new) text result }
+    ensures { (text : List ℕ) → IfOk made (λ line. string_bytes line ≡ text) → WritesOn O.Sink out.old out.new text result }
 {
     match made {
         Ok(text) => write_text(text.as_str(), out),

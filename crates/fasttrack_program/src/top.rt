@@ -1,42 +1,43 @@
 //! The top call: words, image, input, run, and the answer's line, in this order.
 
-ghost use Rattle.std.specs.Prelude.{◌≡◌, ◌<◌, ◌⊎◌, true, false, None, Some, IfSome, IfNone, IsSome, map, string_bytes, vec_len, vec_capacity};
-ghost use Rattle.guest_streams.specs.GuestStreams.{Sinks};
+ghost use Rattle.std.specs.Prelude.{◌≡◌, ◌<◌, IfSome, IsSome, map, option_map, string_bytes, vec_len, vec_capacity};
+ghost use Rattle.guest_streams.specs.GuestStreams.{sinks_of};
 ghost use Rattle.program_words.specs.CommandLine.{asked, request_of};
 ghost use Rattle.fasttrack_program.specs.Completeness.{NothingFailed, IsComplete};
-ghost use Rattle.fasttrack_program.specs.Reading.{ReadsWithoutFault};
-ghost use Rattle.fasttrack_program.specs.Serving.{IsServedWith};
-ghost use Rattle.fasttrack_program.specs.TopCall.{IsAnswered, IsRefusedEarly, ReadFails, is_bench, needs_workers, told_of};
+ghost use Rattle.fasttrack_program.specs.Reading.{ReadsInOrder, known_of};
+ghost use Rattle.fasttrack_program.specs.Serving.{IsServed};
+ghost use Rattle.fasttrack_program.specs.TopCall.{IsAnswered, NoneForWorkers, needs_workers};
 
 use crate::answer::Answer;
 use crate::answer_line::conclude;
-use crate::histories::{Histories, hand_out, make_room};
+use crate::histories::{Histories, hand_out, has_tracks, make_room};
 use crate::serve::serve_request;
 use crate::served::{Served, plain};
 use board_events::Entries;
 use guest_model::NoMemory;
 use host_io::{Files, Sink, Source};
-use program_words::{Request, Task, WordsFault, read_words};
+use program_words::{Request, WordsFault, read_words};
 use std::alloc::Global;
 
 /// Does all that the program does, and answers how it ended. `words` are those behind the program's own name.
 ///
-/// `alone` runs the guest of an image: stream 1 of its output goes to `out`, stream 2 to `notes`. What both got is the
-/// beginning of what the program alone writes within the budget; where the answer is Exited, Trapped or Spent it is all
-/// of it, with the program's own end. `run` does the same with tracks; behind the guest's output `notes` get the report
-/// and the journal, where they are asked for, and `told` gets the serial history of the run where the answer is Exited,
-/// Trapped or Spent. `trial` drops the guest's output: `out` gets a beginning of the report of the program's ledger,
-/// totals and end, all of it where the answer is Shown. `bench` runs a program of its own with tracks, drops its output
-/// and writes its summary on `out`; it reads neither `files` nor `input`, and `told` gets its history where the answer is
-/// Shown. Every answer but Exited and Shown is told by one line on `notes`.
-///
-/// What is checked, in this order, the first that refuses deciding: the words (Usage); whether the image file can be read
-/// (ReadFault), its length, at most 33,554,432 bytes (ImageTooLong), and its first fault (BadImage); unless the input is to
-/// be left unread, whether it can be read (ReadFault) and its length, at most 16,777,216 bytes (InputTooLong). Then the task
-/// is done, and at last the answer's line is written. WriteFault comes where `out` or `notes` failed, NoMemory anywhere.
-///
-/// None exactly where the words ask for workers, unless memory ran out; nothing was read or written then. It can't come while
-/// `program_words` takes no number of workers but 0.
+/// - **Answer and output** (`answered`). The call keeps the plan that the words, the image file and the input ask for:
+///   `specs/Promise.antt` says of each task what it writes on `out` and `notes`, and what it answers once all of that is
+///   written. What the two got is always a beginning of it. WriteFault comes only where one of them failed, and then at a
+///   byte of its own; NoMemory anywhere. Behind it `notes` get one line for every answer but Exited and Shown. `told` gets
+///   the history of a task with tracks, exactly where it was done whole and its answer's line was not lost.
+/// - **Completeness** (`complete`). Where no count of faults rose, all of the plan was done, or memory ran out. With
+///   `laws::good_calls_are_done`: accepted words, an image without a fault and an input within its limit give the
+///   program's own end with all of its output, or Shown with the whole report.
+/// - **Order and refusals** (`answered`, `reads`). The first that refuses decides: the words (Usage); whether the image
+///   file can be read (ReadFault), its length, at most 33,554,432 bytes (ImageTooLong), and its first fault (BadImage);
+///   unless it is to be left unread, whether the input can be read (ReadFault) and its length, at most 16,777,216 bytes
+///   (InputTooLong). Then the task is done.
+/// - **Reads** (`reads`). Only what the task reads is read, the input behind an image without a fault. A read that fails
+///   is counted, and ends the call.
+/// - **Workers** (`workers`). None exactly where the words ask for workers, unless memory ran out; nothing was read,
+///   written or told then. It can't come while `program_words` takes no number of workers but 0.
+/// - **Files** (`held`). What `files` hold is as before.
 pub fn plain_main<F: Files, I: Source, O: Sink, N: Sink>(
     alloc: Global,
     words: &[String],
@@ -47,38 +48,16 @@ pub fn plain_main<F: Files, I: Source, O: Sink, N: Sink>(
     told: &mut Histories,
 ) -> Option<Answer>
     ensures answered { let request = request_of (map string_bytes words.now) in
-        IfSome result (λ answer. IsAnswered request (told_of (F.contents files.old) request) (I.remaining input.old)
-        (record { out = O.contents out.old; out_faults = O.faults out.old; notes = N.contents notes.old; notes_faults = N.faults notes.old })
-        (record { out = O.contents out.new; out_faults = O.faults out.new; notes = N.contents notes.new; notes_faults = N.faults notes.new })
-        told.old told.new answer) }
-
-    // Where no count rose, the answer and the output are what the words, the image and the input ask for, or memory ran
-    // out. So where the words are accepted, the image is within its limit and without a fault, and the input is within its
-    // limit, they are the program's own end with all of its output, or Shown with the whole report
-    // (`laws::good_calls_are_done`).
+        IfSome result (IsAnswered request (known_of F.Files I.Source request files.old input.old)
+        (sinks_of O.Sink N.Sink out.old notes.old) (sinks_of O.Sink N.Sink out.new notes.new) told.old told.new) }
     ensures complete { let request = request_of (map string_bytes words.now) in
-        let before : Sinks = record { out = O.contents out.old; out_faults = O.faults out.old; notes = N.contents notes.old; notes_faults = N.faults notes.old } in
-        let after : Sinks = record { out = O.contents out.new; out_faults = O.faults out.new; notes = N.contents notes.new; notes_faults = N.faults notes.new } in
-        IfSome result (λ answer. NothingFailed (F.faults files.old) (F.faults files.new) (I.faults input.old) (I.faults input.new) before after
-        → IsComplete request (told_of (F.contents files.old) request) (I.remaining input.old) before after answer) }
-
-    // Workers are asked for exactly where there is no answer, unless memory ran out before the words were read.
-    ensures none { IfNone result ((needs_workers (request_of (map string_bytes words.now)) ≡ true)
-        × (files.new ≡ files.old) × (input.new ≡ input.old) × (out.new ≡ out.old) × (notes.new ≡ notes.old) × (told.new ≡ told.old)) }
-    ensures some { IfSome result (λ answer. (answer ≡ Answer.NoMemory) ⊎ (needs_workers (request_of (map string_bytes words.now)) ≡ false)) }
-
-    // A read that failed is counted: that of the image file, and the input was left alone; or that of the input, which is
-    // read only where it is asked for, after an image without a fault. A bench reads neither.
-    ensures read_fault { let request = request_of (map string_bytes words.now) in
-        IfSome result (λ answer. answer ≡ Answer.ReadFault
-        → ReadFails request (told_of (F.contents files.old) request) (F.faults files.old) (F.faults files.new) I.faults input.old input.new) }
-
-    // A failed read ends the call: where the answer is another, no count of reads rose.
-    ensures counted { IfSome result (ReadsWithoutFault (F.faults files.old) (F.faults files.new) (I.faults input.old) (I.faults input.new)) }
-    ensures unread { IfSome (request_of (map string_bytes words.now)) (λ r. r.no_input ≡ true → input.new ≡ input.old) }
-    ensures early { IfSome result (λ answer. IsRefusedEarly answer → input.new ≡ input.old) }
-    ensures bench { IfSome (request_of (map string_bytes words.now)) (λ r. is_bench r.task ≡ true → (files.new ≡ files.old) × (input.new ≡ input.old)) }
-    ensures idle { request_of (map string_bytes words.now) ≡ None → (files.new ≡ files.old) × (input.new ≡ input.old) }
+        let before = sinks_of O.Sink N.Sink out.old notes.old in
+        let after = sinks_of O.Sink N.Sink out.new notes.new in
+        IfSome result (λ answer. NothingFailed F.Files I.Source files.old files.new input.old input.new before after
+        → IsComplete request (known_of F.Files I.Source request files.old input.old) before after answer) }
+    ensures reads { IfSome result (ReadsInOrder F.Files I.Source (request_of (map string_bytes words.now)) files.old files.new input.old input.new) }
+    ensures workers { NoneForWorkers (request_of (map string_bytes words.now)) result
+        ((files.new ≡ files.old) × (input.new ≡ input.old) × (out.new ≡ out.old) × (notes.new ≡ notes.old) × (told.new ≡ told.old)) }
     ensures held { F.contents files.new ≡ F.contents files.old }
 {
     let Served { answer, history } = serve_words(
@@ -106,23 +85,14 @@ fn serve_words<F: Files, I: Source, O: Sink, N: Sink>(
     histories: &mut Vec<Entries>,
 ) -> Option<Served>
     ensures served { let request = request_of (map string_bytes words.now) in
-        IfSome result (IsServedWith request (told_of (F.contents files.old) request) (I.remaining input.old)
-        (record { out = O.contents out.old; out_faults = O.faults out.old; notes = N.contents notes.old; notes_faults = N.faults notes.old })
-        (record { out = O.contents out.new; out_faults = O.faults out.new; notes = N.contents notes.new; notes_faults = N.faults notes.new })) }
-    ensures none { IfNone result ((needs_workers (request_of (map string_bytes words.now)) ≡ true)
-        × (files.new ≡ files.old) × (input.new ≡ input.old) × (out.new ≡ out.old) × (notes.new ≡ notes.old)) }
-    ensures some { IfSome result (λ served. (served.answer ≡ Answer.NoMemory) ⊎ (needs_workers (request_of (map string_bytes words.now)) ≡ false)) }
+        IfSome result (IsServed request (known_of F.Files I.Source request files.old input.old)
+        (sinks_of O.Sink N.Sink out.old notes.old) (sinks_of O.Sink N.Sink out.new notes.new)) }
+    ensures reads { IfSome result (λ served. ReadsInOrder F.Files I.Source (request_of (map string_bytes words.now)) files.old files.new input.old input.new served.answer) }
+    ensures workers { NoneForWorkers (request_of (map string_bytes words.now)) (option_map (λ served. served.answer) result)
+        ((files.new ≡ files.old) × (input.new ≡ input.old) × (out.new ≡ out.old) × (notes.new ≡ notes.old)) }
+    ensures held { F.contents files.new ≡ F.contents files.old }
     ensures items { histories.new.items ≡ histories.old.items }
     ensures room { IfSome result (λ served. IsSome served.history → vec_len histories.new < vec_capacity histories.new) }
-    ensures read_fault { let request = request_of (map string_bytes words.now) in
-        IfSome result (λ served. served.answer ≡ Answer.ReadFault
-        → ReadFails request (told_of (F.contents files.old) request) (F.faults files.old) (F.faults files.new) I.faults input.old input.new) }
-    ensures counted { IfSome result (λ served. ReadsWithoutFault (F.faults files.old) (F.faults files.new) (I.faults input.old) (I.faults input.new) served.answer) }
-    ensures unread { IfSome (request_of (map string_bytes words.now)) (λ r. r.no_input ≡ true → input.new ≡ input.old) }
-    ensures early { IfSome result (λ served. IsRefusedEarly served.answer → input.new ≡ input.old) }
-    ensures bench { IfSome (request_of (map string_bytes words.now)) (λ r. is_bench r.task ≡ true → (files.new ≡ files.old) × (input.new ≡ input.old)) }
-    ensures idle { request_of (map string_bytes words.now) ≡ None → (files.new ≡ files.old) × (input.new ≡ input.old) }
-    ensures held { F.contents files.new ≡ F.contents files.old }
 {
     let request = match read_words(alloc, words) {
         Ok(request) => request,
@@ -142,8 +112,5 @@ fn serve_words<F: Files, I: Source, O: Sink, N: Sink>(
 fn asks_for_workers(request: &Request<'_>) -> bool
     ensures { result ≡ needs_workers (Some (asked request.now)) }
 {
-    match request.task {
-        Task::Alone | Task::Trial => false,
-        Task::Run | Task::Bench(_) => request.workers >= 1,
-    }
+    has_tracks(request.task) && request.workers >= 1
 }

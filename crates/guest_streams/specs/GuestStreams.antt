@@ -26,6 +26,10 @@ pub record Sinks : Type 0 where
 abbrev pub sinks_of : {O N : Type 0} → SinkRow O → SinkRow N → O → N → Sinks
 sinks_of o n out notes = record { out = o.contents out; out_faults = o.faults out; notes = n.contents notes; notes_faults = n.faults notes }
 
+-- the same sinks with this one as `out`
+abbrev pub with_out : {O : Type 0} → SinkRow O → O → Sinks → Sinks
+with_out o out s = record s { out = o.contents out; out_faults = o.faults out }
+
 -- both sinks got the two streams of these marked bytes, each where it tells
 pub record Gets (old new : Sinks) (ms : List Mark) : Type 0 where
   pub stream_1 : Appends old.out new.out (stream_bytes 1 ms)

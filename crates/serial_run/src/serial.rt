@@ -1,8 +1,8 @@
 //! A run with tracks on one thread.
 
-ghost use Rattle.std.specs.Prelude.{◌≡◌, [], true, MatchResult};
+ghost use Rattle.std.specs.Prelude.{◌≡◌, [], IsTrue, MatchResult};
 ghost use Rattle.speculation.specs.Core.{over};
-ghost use Rattle.guest_streams.specs.GuestStreams.{WritesPiece};
+ghost use Rattle.guest_streams.specs.GuestStreams.{WritesPiece, sinks_of};
 ghost use Rattle.track_board.specs.Value.{IsKnown, core_of};
 ghost use Rattle.serial_run.specs.Conducting.{IsSameRun, Conducts};
 ghost use Rattle.serial_run.specs.Failures.{AfterFailure};
@@ -29,16 +29,12 @@ const SEAT: u64 = 0;
 pub fn conduct_serial<O: Sink, N: Sink>(board: &mut Board, out: &mut O, notes: &mut N) -> Conducted
     requires fresh { board.old.entries ≡ [] }
     ensures conducts { Conducts board.new
-        (record { out = O.contents out.old; out_faults = O.faults out.old; notes = N.contents notes.old; notes_faults = N.faults notes.old })
-        (record { out = O.contents out.new; out_faults = O.faults out.new; notes = N.contents notes.new; notes_faults = N.faults notes.new })
-        result }
-    ensures over { over (core_of board.new) ≡ true }
+        (sinks_of O.Sink N.Sink out.old notes.old) (sinks_of O.Sink N.Sink out.new notes.new) result }
+    ensures over { IsTrue (over (core_of board.new)) }
     ensures same { IsSameRun board.old board.new }
     ensures known { IsKnown board.new }
     ensures failure { AfterFailure board.new
-        (record { out = O.contents out.old; out_faults = O.faults out.old; notes = N.contents notes.old; notes_faults = N.faults notes.old })
-        (record { out = O.contents out.new; out_faults = O.faults out.new; notes = N.contents notes.new; notes_faults = N.faults notes.new })
-        result }
+        (sinks_of O.Sink N.Sink out.old notes.old) (sinks_of O.Sink N.Sink out.new notes.new) result }
 {
     match go_rounds(board, out, notes) {
         Ok(outcome) => Conducted::Done(outcome),
@@ -71,9 +67,7 @@ fn go_rounds<O: Sink, N: Sink>(
 ) -> Result<Outcome, OutputFault>
     requires { IsUnderway board.old }
     ensures rounds { RoundsAre board.old board.new
-        (record { out = O.contents out.old; out_faults = O.faults out.old; notes = N.contents notes.old; notes_faults = N.faults notes.old })
-        (record { out = O.contents out.new; out_faults = O.faults out.new; notes = N.contents notes.new; notes_faults = N.faults notes.new })
-        result }
+        (sinks_of O.Sink N.Sink out.old notes.old) (sinks_of O.Sink N.Sink out.new notes.new) result }
     ensures known { IsKnown board.new }
 {
     while go_round(board, out, notes)? {}
@@ -95,9 +89,7 @@ fn go_round<O: Sink, N: Sink>(
 ) -> Result<bool, OutputFault>
     requires { IsUnderway board.old }
     ensures round { RoundIs board.old board.new
-        (record { out = O.contents out.old; out_faults = O.faults out.old; notes = N.contents notes.old; notes_faults = N.faults notes.old })
-        (record { out = O.contents out.new; out_faults = O.faults out.new; notes = N.contents notes.new; notes_faults = N.faults notes.new })
-        result }
+        (sinks_of O.Sink N.Sink out.old notes.old) (sinks_of O.Sink N.Sink out.new notes.new) result }
     ensures known { IsKnown board.new }
 {
     let Ok(verified) = take_verified(board) else {
@@ -137,9 +129,7 @@ pub fn take_verified(board: &mut Board) -> Result<Chunks, NoMemory>
 /// `Failed` where a sink failed. They then have a beginning of the bytes that is shorter.
 pub fn write_chunks<O: Sink, N: Sink>(chunks: &Chunks, out: &mut O, notes: &mut N) -> Result<(), Failed>
     ensures { WritesPiece
-        (record { out = O.contents out.old; out_faults = O.faults out.old; notes = N.contents notes.old; notes_faults = N.faults notes.old })
-        (record { out = O.contents out.new; out_faults = O.faults out.new; notes = N.contents notes.new; notes_faults = N.faults notes.new })
-        chunks.now result }
+        (sinks_of O.Sink N.Sink out.old notes.old) (sinks_of O.Sink N.Sink out.new notes.new) chunks.now result }
 {
     for chunk in chunks.as_slice() {
         write_piece(chunk.stream, chunk.bytes.as_slice(), out, notes)?;

@@ -1,14 +1,14 @@
-use Rattle.guest_streams.specs.GuestStreams.{Sinks}
+use Rattle.guest_streams.specs.GuestStreams.{Sinks, sinks_of}
 use Rattle.fasttrack_program.proofs.OnRuns.{runs-conducted, runs-nothing}
 use Rattle.fasttrack_program.proofs.boards.run_tracks.Goals as goal
 
 pub returns-in-Ok : goal.returns-in-Ok
 returns-in-Ok g c =
-    let before : Sinks = record { out = g.O.Sink.contents c.args.out.now; out_faults = g.O.Sink.faults c.args.out.now; notes = g.N.Sink.contents c.args.notes.now; notes_faults = g.N.Sink.faults c.args.notes.now } in
-    let after : Sinks = record { out = g.O.Sink.contents c.conduct_serial.new.out; out_faults = g.O.Sink.faults c.conduct_serial.new.out; notes = g.N.Sink.contents c.conduct_serial.new.notes; notes_faults = g.N.Sink.faults c.conduct_serial.new.notes } in
+    let before : Sinks = sinks_of g.O.Sink g.N.Sink c.args.out.now c.args.notes.now in
+    let after : Sinks = sinks_of g.O.Sink g.N.Sink c.conduct_serial.new.out c.conduct_serial.new.notes in
     runs-conducted c.args.loaded.now c.args.input c.args.options.now c.in-Ok.board c.conduct_serial.new.board before after c.conduct_serial.result c.in-Ok.ensures c.conduct_serial.ensures.same c.conduct_serial.ensures.conducts
 
 pub returns-in-Err : goal.returns-in-Err
 returns-in-Err g c =
-    let before : Sinks = record { out = g.O.Sink.contents c.args.out.now; out_faults = g.O.Sink.faults c.args.out.now; notes = g.N.Sink.contents c.args.notes.now; notes_faults = g.N.Sink.faults c.args.notes.now } in
+    let before : Sinks = sinks_of g.O.Sink g.N.Sink c.args.out.now c.args.notes.now in
     runs-nothing c.args.loaded.now c.args.input c.args.options.now before

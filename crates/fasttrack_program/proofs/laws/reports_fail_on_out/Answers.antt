@@ -3,7 +3,7 @@ use Rattle.fasttrack_program.proofs.OnReports.{stops_on_out}
 use Rattle.fasttrack_program.proofs.laws.reports_fail_on_out.Goals as goal
 
 pub returns-clause-trial : goal.returns-clause-trial
-returns-clause-trial c = λ image input options entries old new h. stops_on_out old new (program_report image input options.budget) h
+returns-clause-trial c = λ g entries old new h. stops_on_out old new (program_report g.image g.input g.options.budget) h
 
 pub returns-clause-bench : goal.returns-clause-bench
-returns-clause-bench c = λ number image input options entries old new h. stops_on_out old new (bench_report number image input options.budget) h
+returns-clause-bench c = λ number g entries old new h. stops_on_out old new (bench_report number g.image g.input g.options.budget) h

@@ -1,24 +1,28 @@
-use Rattle.std.proofs.Common.{◌≡◌, Err, ℕ, List, [], Option, refl, sym, ap, ◌∙◌}
-use Rattle.elf32_loader.specs.LoadedImage.{image_of_loaded}
-use Rattle.guest_streams.specs.GuestStreams.{Sinks}
+use Rattle.std.proofs.Common.{Ok, Err, [], refl, ap, ◌∙◌}
+use Rattle.guest_streams.specs.GuestStreams.{Sinks, with_out}
 use Rattle.program_words.specs.declared.request.Task.TheVariants.{Trial}
-use Rattle.fasttrack_program.specs.declared.options.Options.{Options}
+use Rattle.elf32_loader.specs.LoadedImage.{image_of_loaded}
+use Rattle.fasttrack_program.specs.Promise.{promise_of}
 use Rattle.fasttrack_program.specs.Reports.{report, program_report}
+use Rattle.fasttrack_program.specs.Tracks.{given_of}
 use Rattle.fasttrack_program.proofs.OnTexts.{WritesText-as}
-use Rattle.fasttrack_program.proofs.OnReports.{trial_report, text_shown, report_fails}
+use Rattle.fasttrack_program.proofs.OnReports.{trial_report, report-whole, report-part}
 use Rattle.fasttrack_program.proofs.show_trial.show_trial.Goals as goal
 
-pub returns-in-Ok-write_report-clause-serves : goal.returns-in-Ok-write_report-clause-serves
-returns-in-Ok-write_report-clause-serves g c = λ (options : Options) (same : options.budget ≡ c.args.budget) (notes : Option (List ℕ)) (faults : ℕ).
-    let before : Sinks = record { out = g.O.Sink.contents c.args.out.now; out_faults = g.O.Sink.faults c.args.out.now; notes = notes; notes_faults = faults } in
-    let is = ap (λ xs. report xs c.in-Ok.trial.finished.count c.in-Ok.trial.finished.end) c.as_slice.ensures ∙ trial_report c.args.loaded.now c.args.input.now c.args.budget c.in-Ok.trial c.in-Ok.ensures ∙ ap (program_report (image_of_loaded c.args.loaded.now) c.args.input.now) (sym same) in
-    let written = rw is at c.in-Ok-write_report.ensures in
-    (tt, text_shown before (g.O.Sink.contents c.write_report.new.out) (g.O.Sink.faults c.write_report.new.out) (program_report (image_of_loaded c.args.loaded.now) c.args.input.now options.budget) written.0 written.1)
+pub returns-in-Ok-write_report : goal.returns-in-Ok-write_report
+returns-in-Ok-write_report g c = λ (s : Sinks).
+    let before = with_out g.O.Sink c.args.out.now s in
+    let text = program_report (image_of_loaded c.args.loaded.now) c.args.input.now c.args.options.now.budget in
+    let is = ap (λ xs. report xs c.in-Ok.trial.finished.count c.in-Ok.trial.finished.end) c.as_slice.ensures ∙ trial_report c.args.loaded.now c.args.input.now c.args.options.now.budget c.in-Ok.trial c.in-Ok.ensures in
+    let written = WritesText-as {T = Unit {0}} before.out (g.O.Sink.contents c.write_report.new.out) before.out_faults (g.O.Sink.faults c.write_report.new.out) _ text (Ok tt) is c.in-Ok-write_report.ensures in
+    rw c.plain-in-Ok-write_report.ensures
+    (report-whole (promise_of Trial) (given_of c.args.loaded.now c.args.input.now c.args.options.now) [] refl text refl before (g.O.Sink.contents c.write_report.new.out) (g.O.Sink.faults c.write_report.new.out) written)
 
-pub returns-clause-serves : goal.returns-clause-serves
-returns-clause-serves g c = λ (options : Options) (same : options.budget ≡ c.args.budget) (notes : Option (List ℕ)) (faults : ℕ).
-    let before : Sinks = record { out = g.O.Sink.contents c.args.out.now; out_faults = g.O.Sink.faults c.args.out.now; notes = notes; notes_faults = faults } in
-    let is = ap (λ xs. report xs c.in-Ok.trial.finished.count c.in-Ok.trial.finished.end) c.as_slice.ensures ∙ trial_report c.args.loaded.now c.args.input.now c.args.budget c.in-Ok.trial c.in-Ok.ensures ∙ ap (program_report (image_of_loaded c.args.loaded.now) c.args.input.now) (sym same) in
-    let written = WritesText-as {T = Unit {0}} before.out (g.O.Sink.contents c.write_report.new.out) before.out_faults (g.O.Sink.faults c.write_report.new.out) _ _ (Err c.in-Err.fault) is c.in-Err.ensures in
-    rw c.answer_of_fault.ensures
-    (report_fails Trial (image_of_loaded c.args.loaded.now) c.args.input.now options [] before (g.O.Sink.contents c.write_report.new.out) (g.O.Sink.faults c.write_report.new.out) (program_report (image_of_loaded c.args.loaded.now) c.args.input.now options.budget) c.in-Err.fault refl written)
+pub returns : goal.returns
+returns g c = λ (s : Sinks).
+    let before = with_out g.O.Sink c.args.out.now s in
+    let text = program_report (image_of_loaded c.args.loaded.now) c.args.input.now c.args.options.now.budget in
+    let is = ap (λ xs. report xs c.in-Ok.trial.finished.count c.in-Ok.trial.finished.end) c.as_slice.ensures ∙ trial_report c.args.loaded.now c.args.input.now c.args.options.now.budget c.in-Ok.trial c.in-Ok.ensures in
+    let written = WritesText-as {T = Unit {0}} before.out (g.O.Sink.contents c.write_report.new.out) before.out_faults (g.O.Sink.faults c.write_report.new.out) _ text (Err c.in-Err.fault) is c.in-Err.ensures in
+    rw (c.plain-in-Err.ensures, c.answer_of_fault.ensures)
+    (report-part (promise_of Trial) (given_of c.args.loaded.now c.args.input.now c.args.options.now) [] refl text refl before (g.O.Sink.contents c.write_report.new.out) (g.O.Sink.faults c.write_report.new.out) c.in-Err.fault written)

@@ -1,0 +1,92 @@
+-- What a task promises: one record a task
+use Rattle.std.specs.Prelude.{◌≡◌, ℕ, Bool, true, false, if◌then◌else◌, List, [], ◌++◌}
+use Rattle.speculation.specs.declared.history.Entry.{Entry}
+use Rattle.speculation.specs.declared.history.Settings.{Settings}
+use Rattle.speculation.specs.Record.{Ran, output_of}
+use Rattle.speculation.specs.Run.{Mark, marked}
+use Rattle.speculation.specs.Serial.{IsSerial}
+use Rattle.guest_model.specs.Image.{Image, program_alone, start_of}
+use Rattle.guest_model.specs.MachineState.{MachineState}
+use Rattle.guest_model.specs.Rv32.{rv32}
+use Rattle.guest_model.specs.declared.end.End.{End}
+use Rattle.guest_streams.specs.GuestStreams.{end_of}
+use Rattle.program_words.specs.declared.request.Task.{Task}
+use Rattle.program_words.specs.declared.request.Task.TheVariants.{Alone, Run, Trial, Bench}
+use Rattle.fasttrack_program.specs.Answers.{answer_of}
+use Rattle.fasttrack_program.specs.Reports.{program_report, bench_report, journal_text}
+use Rattle.fasttrack_program.specs.declared.options.Options.{Options}
+use Rattle.fasttrack_program.specs.declared.answer.Answer.{Answer}
+use Rattle.fasttrack_program.specs.declared.answer.Answer.TheVariants.{Shown}
+
+-- what a task is done on: the guest of an image with an input, by these options
+pub record Given : Type 0 where
+  pub image : Image
+  pub input : List ℕ
+  pub options : Options
+
+-- where the guest of a task comes from: the image file that the words name, behind which the input is read; or the
+-- generator of programs for benches, for which nothing is read
+pub data Guest : Type 0 where
+  FromFile : Guest
+  ForBench : ℕ → Guest
+
+-- Stream 1 of what a task writes goes to `out`, stream 2 to `notes`.
+pub record Promise : Type 0 where
+  pub guest : Guest
+  -- whether it is done with tracks, whose history it hands out
+  pub has_tracks : Bool
+  -- all that it writes, where its history has these entries
+  pub writes : Given → List Entry → List Mark
+  -- what it answers then
+  pub answer : Given → Answer
+
+-- the program of the guest alone, within the budget, and its own end
+abbrev pub alone_on : Given → Ran MachineState End
+alone_on g = program_alone g.image g.input g.options.budget
+
+abbrev pub own_end : Given → Answer
+own_end g = answer_of (end_of (alone_on g).end)
+
+-- the texts that are asked for behind the guest's output: the report, then the journal of these entries
+abbrev pub texts_behind : Given → List Entry → List ℕ
+texts_behind g entries =
+    (if g.options.report then program_report g.image g.input g.options.budget else []) ++ (if g.options.journal then journal_text entries else [])
+
+-- `alone` and `run` pass on the output of the program alone, `run` with the texts behind it, and end as the program does.
+-- `trial` and `bench` drop the output, and write a report instead.
+abbrev pub promise_of : Task → Promise
+promise_of Alone = record {
+  guest = FromFile;
+  has_tracks = false;
+  writes = λ g entries. output_of (alone_on g);
+  answer = own_end;
+}
+promise_of Run = record {
+  guest = FromFile;
+  has_tracks = true;
+  writes = λ g entries. output_of (alone_on g) ++ marked 2 (texts_behind g entries);
+  answer = own_end;
+}
+promise_of Trial = record {
+  guest = FromFile;
+  has_tracks = false;
+  writes = λ g entries. marked 1 (program_report g.image g.input g.options.budget);
+  answer = λ g. Shown;
+}
+promise_of (Bench number) = record {
+  guest = ForBench number;
+  has_tracks = true;
+  writes = λ g entries. marked 1 (bench_report number g.image g.input g.options.budget);
+  answer = λ g. Shown;
+}
+
+-- ---- the history of a task
+
+-- the settings of a board for these options
+abbrev pub settings_of : Options → Settings
+settings_of o = record { tracks = o.tracks; budget = o.budget }
+
+-- the entries are the serial history of the guest, where there are tracks; else there are none
+abbrev pub IsHistory : Bool → Given → List Entry → Type 0
+IsHistory true g entries = IsSerial (rv32 g.input) (settings_of g.options) (start_of g.image) entries
+IsHistory false g entries = entries ≡ []
