@@ -58,9 +58,9 @@ module _ (p : BoardPass) (v : Posted) (extends : ExtendsPass program_of (λ (b :
         rest,
         turn-entries,
         λ other differ. (
-          let mine = alone other (λ same. differ (sym same)) in
-          let same : mine.rest ≡ rest = append_cancel_left v.entries mine.rest rest (sym (ap (λ (b : Posted). b.entries) mine.is) ∙ turn-entries) in
-          entries-foreign other v.entries rest (subst (λ (xs : List Entry). IsForeign other v.entries xs) same mine.foreign)),
+            let mine = alone other (λ same. differ (sym same)) in
+            let same : mine.rest ≡ rest = append_cancel_left v.entries mine.rest rest (sym (ap (λ (b : Posted). b.entries) mine.is) ∙ turn-entries) in
+            entries-foreign other v.entries rest (subst (λ (xs : List Entry). IsForeign other v.entries xs) same mine.foreign)),
       );
     }
 

@@ -145,7 +145,7 @@ pub balance : (seat : ℕ) (before rest : List Entry) → own_loans seat (before
 balance seat before [] = ap (λ xs. own_loans seat xs + 0) (append-nil before)
 balance seat before (x ∷ xs) =
     let here : own_loans seat (before ++ (x ∷ [])) + ends_of (own_entries seat before (x ∷ [])) ≡ own_loans seat before + lends_of (own_entries seat before (x ∷ [])) =
-        ap (λ ls. seat_count seat ls + ends_of (own_entries seat before (x ∷ []))) (loans-append [] before (x ∷ [])) ∙ balance-entry seat before x in
+    ap (λ ls. seat_count seat ls + ends_of (own_entries seat before (x ∷ []))) (loans-append [] before (x ∷ [])) ∙ balance-entry seat before x in
     let rest = balance seat (before ++ (x ∷ [])) xs in
     let both = own-append seat before (x ∷ []) xs in
     let lends = ap lends_of both ∙ lends-append (own_entries seat before (x ∷ [])) (own_entries seat (before ++ (x ∷ [])) xs) in

@@ -36,13 +36,27 @@ start_send = declared_send start.the_type (search (sendable, regs.the_send), (se
 
 track_send : IsSend track.the_row
 track_send = declared_send track.the_type (
-  search sendable, (
-  search (sendable, kind.the_send), (
-  start_send, (
-  search (sendable, as_row_send, state.the_send, image.the_send) depth 12, (
-  search sendable, (
-  search (sendable, held.the_send), (
-  search (sendable, as_row_send, option.the_send, end.the_send) depth 12, (search sendable, tt))))))))
+  search sendable,
+  (
+    search (sendable, kind.the_send),
+    (
+      start_send,
+      (
+        search (sendable, as_row_send, state.the_send, image.the_send) depth 12,
+        (
+          search sendable,
+          (
+            search (sendable, held.the_send),
+            (
+              search (sendable, as_row_send, option.the_send, end.the_send) depth 12,
+              (search sendable, tt),
+            ),
+          ),
+        ),
+      ),
+    ),
+  ),
+)
 
 -- ---- the board
 
@@ -51,28 +65,66 @@ slot_send = variants_send slot.enum ((track_send, tt), ((search sendable, tt), t
 
 region_send : IsSend region.the_row
 region_send = declared_send region.the_type (
-  search sendable, (
-  slot_send, (
-  search (sendable, fast.the_send), (
-  search (sendable, as_row_send, option.the_send, between.the_send) depth 12, tt))))
+  search sendable,
+  (
+    slot_send,
+    (
+      search (sendable, fast.the_send),
+      (
+        search (sendable, as_row_send, option.the_send, between.the_send) depth 12,
+        tt,
+      ),
+    ),
+  ),
+)
 
 board_fields : FieldsHave IsSend inside.the_type.parts
 board_fields = (
-  search sendable, (
-  search sendable, (
-  search sendable, (
-  search (sendable, as_row_send, arc.the_send, bytes.the_send, bytes.the_sync, heap.the_send, heap.the_sync, allocator.the_frees) depth 12, (
-  search sendable, (
-  search (sendable, as_row_send, vec.the_send, ready.the_send, heap.the_send, allocator.the_frees) depth 12, (
-  search (sendable, as_row_send, vec.the_send, row.the_send, heap.the_send, allocator.the_frees) depth 12, (
-  search sendable, (
-  search sendable, (
-  search (sendable, as_row_send, queue.the_send, region_send) depth 12, (
-  slot_send, (
-  search (sendable, as_row_send, vec.the_send, lent.the_send, heap.the_send, allocator.the_frees) depth 12, (
-  search (sendable, as_row_send, option.the_send, finished.the_send) depth 12, (
-  search sendable, (
-  search (sendable, as_row_send, vec.the_send, entry.the_send, heap.the_send, allocator.the_frees) depth 12, tt)))))))))))))))
+  search sendable,
+  (
+    search sendable,
+    (
+      search sendable,
+      (
+        search (sendable, as_row_send, arc.the_send, bytes.the_send, bytes.the_sync, heap.the_send, heap.the_sync, allocator.the_frees) depth 12,
+        (
+          search sendable,
+          (
+            search (sendable, as_row_send, vec.the_send, ready.the_send, heap.the_send, allocator.the_frees) depth 12,
+            (
+              search (sendable, as_row_send, vec.the_send, row.the_send, heap.the_send, allocator.the_frees) depth 12,
+              (
+                search sendable,
+                (
+                  search sendable,
+                  (
+                    search (sendable, as_row_send, queue.the_send, region_send) depth 12,
+                    (
+                      slot_send,
+                      (
+                        search (sendable, as_row_send, vec.the_send, lent.the_send, heap.the_send, allocator.the_frees) depth 12,
+                        (
+                          search (sendable, as_row_send, option.the_send, finished.the_send) depth 12,
+                          (
+                            search sendable,
+                            (
+                              search (sendable, as_row_send, vec.the_send, entry.the_send, heap.the_send, allocator.the_frees) depth 12,
+                              tt,
+                            ),
+                          ),
+                        ),
+                      ),
+                    ),
+                  ),
+                ),
+              ),
+            ),
+          ),
+        ),
+      ),
+    ),
+  ),
+)
 
 pub board_send : IsSend the_row
 board_send = view_send _ _ _ _ _ (declared_send inside.the_type board_fields)

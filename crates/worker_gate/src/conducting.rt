@@ -1,10 +1,10 @@
 //! The conductor with workers.
 
-ghost use Rattle.std.specs.Prelude.{◌≡◌, ◌≤◌, ◌+◌, [], true, false, All};
+ghost use Rattle.std.specs.Prelude.{◌≡◌, ◌≤◌, ◌+◌, [], false, IsTrue, All};
 ghost use Rattle.speculation.specs.Core.{over};
-ghost use Rattle.guest_streams.specs.GuestStreams.{GetsAll, sinks_of};
+ghost use Rattle.guest_streams.specs.GuestStreams.{sinks_of};
 ghost use Rattle.track_board.specs.Value.{IsKnown, core_of};
-ghost use Rattle.worker_gate.specs.Seats.{seen_of, own_loans, IsReady};
+ghost use Rattle.worker_gate.specs.Seats.{seen_of, IsReady};
 ghost use Rattle.worker_gate.specs.Conducting.{Conducts, LedIs, Concludes};
 
 use crate::gate::Gate;
@@ -52,7 +52,7 @@ pub fn conduct<R: Threads + Wait + Clock + Sync, O: Sink, N: Sink, G: Gate + Syn
     ensures pass { pass.new ≡ record pass.old { seen = pass.new.seen; stock = pass.new.stock } }
     ensures conducts { Conducts workers (seen_of pass.new)
         (sinks_of O.Sink N.Sink out.old notes.old) (sinks_of O.Sink N.Sink out.new notes.new) result }
-    ensures over { over (core_of (seen_of pass.new)) ≡ true }
+    ensures over { IsTrue (over (core_of (seen_of pass.new))) }
     ensures known { IsKnown (seen_of pass.new) }
 {
     let mut passes = passes_for(alloc, lock, pass, workers);
@@ -113,7 +113,7 @@ fn go_together<R: Threads + Wait + Clock + Sync, O: Sink, N: Sink, G: Gate + Syn
     ensures pass { pass.new ≡ record pass.old { seen = pass.new.seen } }
     ensures led { LedIs (seen_of pass.new)
         (sinks_of O.Sink N.Sink out.old notes.old) (sinks_of O.Sink N.Sink out.new notes.new) result }
-    ensures over { over (core_of (seen_of pass.new)) ≡ true }
+    ensures over { IsTrue (over (core_of (seen_of pass.new))) }
     ensures known { IsKnown (seen_of pass.new) }
 {
     beside::<Worker, R, TurnLock<Board>, Pass<Board>, G, _, _>(
@@ -147,7 +147,7 @@ fn lead<R: Wait + Clock, O: Sink, N: Sink, G: Gate>(
     ensures pass { pass.new ≡ record pass.old { seen = pass.new.seen } }
     ensures led { LedIs (seen_of pass.new)
         (sinks_of O.Sink N.Sink out.old notes.old) (sinks_of O.Sink N.Sink out.new notes.new) result }
-    ensures over { over (core_of (seen_of pass.new)) ≡ true }
+    ensures over { IsTrue (over (core_of (seen_of pass.new))) }
     ensures known { IsKnown (seen_of pass.new) }
 {
     let mut pauses = Pauses::new();
@@ -186,7 +186,7 @@ fn conclude<R: Wait + Clock, O: Sink, N: Sink, G: Gate>(
     ensures pass { pass.new ≡ record pass.old { seen = pass.new.seen } }
     ensures concludes { Concludes pass.old.stock (seen_of pass.old) (seen_of pass.new)
         (sinks_of O.Sink N.Sink out.old notes.old) (sinks_of O.Sink N.Sink out.new notes.new) result }
-    ensures over { over (core_of (seen_of pass.new)) ≡ true }
+    ensures over { IsTrue (over (core_of (seen_of pass.new))) }
     ensures known { IsKnown (seen_of pass.new) }
 {
     let Ok(closed) = finish(rt, lock, pass, gate) else {

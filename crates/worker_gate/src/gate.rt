@@ -1,7 +1,7 @@
 //! Points of a run at which a caller may hold a thread.
 
-use std::sync::Wait;
 use std::rt::Clock;
+use std::sync::Wait;
 use track_board::Name;
 
 /// A point that a thread is about to pass.

@@ -1,6 +1,6 @@
 //! Turns of the conductor: what is verified is handed out, and at the end what came of the run.
 
-ghost use Rattle.std.specs.Prelude.{◌≡◌, ◌≤◌, [], true, false};
+ghost use Rattle.std.specs.Prelude.{◌≡◌, ◌≤◌, [], false, IsTrue};
 ghost use Rattle.speculation.specs.Core.{over};
 ghost use Rattle.track_board.specs.Value.{IsKnown, core_of};
 ghost use Rattle.worker_gate.specs.Seats.{ActsAlone, seen_of};
@@ -69,7 +69,7 @@ pub(crate) fn halt<R: Wait + Clock, G: Gate>(
     requires seat { pass.old.seat ≡ 0 }
     ensures pass { pass.new ≡ record pass.old { seen = pass.new.seen } }
     ensures hands { Hands [] (seen_of pass.old) (seen_of pass.new) }
-    ensures over { over (core_of (seen_of pass.new)) ≡ true }
+    ensures over { IsTrue (over (core_of (seen_of pass.new))) }
     ensures known { IsKnown (seen_of pass.new) }
 {
     gate.pass(rt, Point::Enter);
@@ -94,7 +94,7 @@ pub(crate) fn finish<R: Wait + Clock, G: Gate>(
     requires stock { 1 ≤ pass.old.stock }
     ensures pass { pass.new ≡ record pass.old { seen = pass.new.seen } }
     ensures closes { Closes pass.old.stock (seen_of pass.old) (seen_of pass.new) result }
-    ensures over { over (core_of (seen_of pass.new)) ≡ true }
+    ensures over { IsTrue (over (core_of (seen_of pass.new))) }
     ensures known { IsKnown (seen_of pass.new) }
 {
     gate.pass(rt, Point::Enter);
@@ -131,7 +131,7 @@ fn hand_out(board: &mut Board) -> Result<Verified, NoMemory>
 /// `NoMemory` where the run has no finish, or there was no room for the copies; the board is over then.
 fn close(board: &mut Board) -> Result<Closed, NoMemory>
     ensures closes { Takes board.old board.new result }
-    ensures over { over (core_of board.new) ≡ true }
+    ensures over { IsTrue (over (core_of board.new)) }
     ensures alone { ActsAlone 0 board.old board.new }
     ensures known { IsKnown board.new }
 {

@@ -12,8 +12,8 @@ use crate::kinds::Round;
 use crate::turns::{begin, end, end_lost};
 use basic_types::NoMemory;
 use board_lock::{Pass, TurnLock};
-use std::sync::Wait;
 use std::rt::Clock;
+use std::sync::Wait;
 use track_board::{Board, Loan};
 
 /// One round: the board does what is due and lends the oldest lendable track, which runs one slice outside of turns and

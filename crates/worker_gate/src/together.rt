@@ -28,9 +28,14 @@ fn all_help<A: Help<L, P>, R: Threads + Wait + Clock + Sync, L: Sync, P: Send, G
     requires { All (A.ready shared.now) owns.old }
 {
     let threads = owns.len().saturating_add(1);
-    thread::for_each_mut(rt, owns, threads, &|_, own: &mut P|
-        requires { A.ready shared.now own.now }
-    { A::help(rt, shared, own, gate) });
+    thread::for_each_mut(
+        rt,
+        owns,
+        threads,
+        &|_, own: &mut P|
+            requires { A.ready shared.now own.now }
+        { A::help(rt, shared, own, gate) },
+    );
 }
 
 /// Runs the lead here, and beside it a helper for each of these values. All have ended when it returns. Where no thread
@@ -43,13 +48,7 @@ pub(crate) fn beside<
     G: Gate + Sync,
     T,
     F: FnMut() -> T,
->(
-    rt: &R,
-    shared: &L,
-    owns: &mut [P],
-    gate: &G,
-    lead: &mut F,
-) -> T
+>(rt: &R, shared: &L, owns: &mut [P], gate: &G, lead: &mut F) -> T
     requires ready { All (A.ready shared.now) owns.old }
     requires lead { F.pre lead.old }
     ensures { F.step lead.old result lead.new }

@@ -11,8 +11,8 @@ use crate::acts::{Found, give, lose, take};
 use crate::gate::{Gate, Point};
 use basic_types::NoMemory;
 use board_lock::{Pass, TurnLock};
-use std::sync::Wait;
 use std::rt::Clock;
+use std::sync::Wait;
 use track_board::laws::entries_are_legal;
 use track_board::{Board, Loan};
 

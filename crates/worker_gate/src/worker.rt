@@ -1,6 +1,6 @@
 //! A worker: rounds until the board is over.
 
-ghost use Rattle.std.specs.Prelude.{◌≡◌, true, false};
+ghost use Rattle.std.specs.Prelude.{◌≡◌, false, IsTrue};
 ghost use Rattle.speculation.specs.Core.{over};
 ghost use Rattle.track_board.specs.Value.{IsKnown, core_of};
 ghost use Rattle.worker_gate.specs.Seats.{seen_of, own_loans};
@@ -13,8 +13,8 @@ use crate::rounds::round;
 use crate::together::Help;
 use basic_types::NoMemory;
 use board_lock::{Pass, TurnLock};
-use std::sync::Wait;
 use std::rt::Clock;
+use std::sync::Wait;
 use track_board::Board;
 
 /// Goes in rounds until the board is over, and pauses after a round that found nothing.
@@ -35,7 +35,7 @@ pub fn work<R: Wait + Clock, G: Gate>(
     requires none { own_loans pass.old.seat pass.old.seen ≡ 0 }
     ensures pass { pass.new ≡ record pass.old { seen = pass.new.seen } }
     ensures work { WorkIs pass.old.seat (seen_of pass.old) (seen_of pass.new) result }
-    ensures over { over (core_of (seen_of pass.new)) ≡ true }
+    ensures over { IsTrue (over (core_of (seen_of pass.new))) }
     ensures none { own_loans pass.new.seat pass.new.seen ≡ 0 }
     ensures known { IsKnown (seen_of pass.new) }
 {

@@ -15,14 +15,14 @@ returns-then-over-clause-alone c = alone-gone c.args.seat c.args.board.now c.giv
 pub returns-clause-ended : goal.returns-clause-ended
 returns-clause-ended c =
     let ended : HasEnded c.args.seat c.args.loan.name c.args.board.now c.give_up.new.self =
-        elim c.else-not-was_over.branch [
-          else-not-was_over-via-then-not-was_over+else-over w ↦
-            gone-dropped c.args.seat c.args.board.now c.give_up.new.self c.args.loan.name c.requires.known c.requires.lent c.give_up.ensures.entry
-            c.give_up.ensures.over (sym w.over.ensures.result ∙ w.if-over.false)
-        | else-not-was_over-via-else-not-was_over w ↦
-            gone-over c.args.seat c.args.board.now c.give_up.new.self c.args.loan.name c.requires.known c.requires.lent c.give_up.ensures.entry
-            (sym c.over-was_over.ensures.result ∙ w.if-not-was_over.false)
-        ] in
+    elim c.else-not-was_over.branch [
+      | else-not-was_over-via-then-not-was_over+else-over w ↦
+          gone-dropped c.args.seat c.args.board.now c.give_up.new.self c.args.loan.name c.requires.known c.requires.lent c.give_up.ensures.entry
+          c.give_up.ensures.over (sym w.over.ensures.result ∙ w.if-over.false)
+      | else-not-was_over-via-else-not-was_over w ↦
+          gone-over c.args.seat c.args.board.now c.give_up.new.self c.args.loan.name c.requires.known c.requires.lent c.give_up.ensures.entry
+          (sym c.over-was_over.ensures.result ∙ w.if-not-was_over.false)
+    ] in
     end-settled c.args.seat c.args.loan.name c.args.board.now c.give_up.new.self c.settle.new.board c.settle.result ended c.settle.ensures.settled
 
 pub returns-clause-alone : goal.returns-clause-alone

@@ -8,17 +8,17 @@ give-ended-requires-clause-home g c =
 pub leave-requires-clause-value : goal.leave-requires-clause-value
 leave-requires-clause-value g c =
     let turn : IsTurn c.args.pass.now c.enter-turn.new.pass c.seat-seat.result c.enter-turn.result c.get-board.result.now c.give-ended.new.board =
-        record { own = c.seat-seat.ensures; entered = c.enter-turn.ensures.pass; extends = c.enter-turn.ensures.value; lent = c.get-board.ensures.value; alone = c.give-ended.ensures.alone } in
+    record { own = c.seat-seat.ensures; entered = c.enter-turn.ensures.pass; extends = c.enter-turn.ensures.value; lent = c.get-board.ensures.value; alone = c.give-ended.ensures.alone } in
     may-leave c.args.pass.now c.enter-turn.new.pass c.enter-turn.new.pass c.seat-seat.result c.enter-turn.result c.get-board.result.now c.give-ended.new.board turn
 
 pub returns-clause-ended : goal.returns-clause-ended
 returns-clause-ended g c =
     let turn : IsTurn c.args.pass.now c.enter-turn.new.pass c.seat-seat.result c.enter-turn.result c.get-board.result.now c.give-ended.new.board =
-        record { own = c.seat-seat.ensures; entered = c.enter-turn.ensures.pass; extends = c.enter-turn.ensures.value; lent = c.get-board.ensures.value; alone = c.give-ended.ensures.alone } in
+    record { own = c.seat-seat.ensures; entered = c.enter-turn.ensures.pass; extends = c.enter-turn.ensures.value; lent = c.get-board.ensures.value; alone = c.give-ended.ensures.alone } in
     end-left c.args.pass.now c.enter-turn.new.pass c.leave.new.pass c.seat-seat.result c.enter-turn.result c.get-board.result.now c.give-ended.new.board turn c.leave.ensures c.args.loan.name c.give-ended.result c.give-ended.ensures.ended
 
 pub returns-clause-known : goal.returns-clause-known
 returns-clause-known g c =
     let turn : IsTurn c.args.pass.now c.enter-turn.new.pass c.seat-seat.result c.enter-turn.result c.get-board.result.now c.give-ended.new.board =
-        record { own = c.seat-seat.ensures; entered = c.enter-turn.ensures.pass; extends = c.enter-turn.ensures.value; lent = c.get-board.ensures.value; alone = c.give-ended.ensures.alone } in
+    record { own = c.seat-seat.ensures; entered = c.enter-turn.ensures.pass; extends = c.enter-turn.ensures.value; lent = c.get-board.ensures.value; alone = c.give-ended.ensures.alone } in
     known-left c.args.pass.now c.enter-turn.new.pass c.leave.new.pass c.seat-seat.result c.enter-turn.result c.get-board.result.now c.give-ended.new.board turn c.leave.ensures c.give-ended.ensures.known
