@@ -1,0 +1,26 @@
+//! Workers over one board: each takes a track, runs it outside of the lock and brings it home, and the conductor writes
+//! what the board releases.
+//!
+//! [`round`](rounds::round) is one round of a worker, [`work`] all of them, and [`conduct`] starts workers, takes part in
+//! their work itself, and answers what came of the run. What comes of it is the same for every number of workers and for
+//! every order in which they get their turns: the contracts say it of the entries that the caller's pass has seen.
+//!
+//! No contract says that a turn comes, so none says that these calls return.
+#![tactic(auto)]
+
+mod acts;
+mod conducting;
+mod gate;
+mod kinds;
+mod pauses;
+mod releases;
+pub mod rounds;
+mod together;
+mod turns;
+mod worker;
+
+pub use conducting::conduct;
+pub use gate::{Gate, Open, Point};
+pub use kinds::Round;
+pub use serial_run::Conducted;
+pub use worker::work;
