@@ -69,8 +69,8 @@ fn outcome_of(rt: &impl Abort, got: Got) -> (Outcome, Vec<u8>) {
 /// Each entry is read back from its line.
 fn assert_lines(rt: &impl Abort, alloc: Global, entries: &[Entry]) -> Result<(), Fail> {
     for entry in entries {
-        let line = entry_text(alloc, entry)?;
-        assert_eq!(rt; read_entry(&line), Some(*entry));
+        let text = entry_text(alloc, entry)?;
+        assert_eq!(rt; text.strip_suffix('\n').and_then(read_entry), Some(*entry));
     }
     Ok(())
 }
