@@ -3,9 +3,9 @@
 ghost use Rattle.std.specs.Prelude.{◌≡◌, ◌≤◌, [], IfOk};
 
 use basic_types::Bytes;
+use board_lock::TurnLock;
 use elf32_loader::load;
 use host_io::MemorySink;
-use board_lock::TurnLock;
 use std::alloc::Global;
 use std::rt::Clock;
 use std::sync::{Arc, Wait};
