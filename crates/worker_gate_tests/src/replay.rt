@@ -116,9 +116,10 @@ impl Replay {
     fn follow(&mut self, entry: Entry) -> Result<(), Fail> {
         match entry {
             Entry::Lend { .. } => self.lend(),
-            Entry::Back { name, .. } | Entry::Gone { name } => self.bring_home(place_of(
-                &self.out, name,
-            )?),
+            Entry::Back { name, .. } | Entry::Gone { name } => {
+                let place = place_of(&self.out, name)?;
+                self.bring_home(place)
+            }
             Entry::Release { .. } => self.release(),
             _ => self.settle(),
         }

@@ -106,6 +106,7 @@ fn assert_done<R: Abort + Threads + Wait + Clock + Sync>(
 fn any_number_of_workers_writes_the_same(rt: HostRuntime) -> Result<(), Fail> {
     let image = generate(rt.alloc(), 1, 6)?;
     for (tracks, workers) in CASES {
+        assert!(rt; 1 <= tracks && tracks <= 32 && workers <= 64);
         let given = plain(image.as_slice(), tracks, workers);
         assert_done(&rt, rt.alloc(), &given, &SIX_REGIONS, End::Exit(0))?;
     }
