@@ -1,13 +1,12 @@
 -- What the sinks got of the program's output when a conductor is done, and the outcome.
-use Rattle.std.proofs.Common.{◌≡◌, ◌≢◌, ℕ, ◌+◌, ◌≤◌, ◌<◌, List, [], ◌∷◌, ◌++◌, length, is_some, true, Option, Some, None, Result, Ok, Err, refl, sym, ap, ◌∙◌, subst, append_assoc, append-nil, arith}
+use Rattle.std.proofs.Common.{◌≡◌, ℕ, ◌+◌, ◌≤◌, List, [], ◌∷◌, ◌++◌, length, is_some, true, Option, Some, None, refl, sym, ap, ◌∙◌, subst, append_assoc, append-nil, arith}
 use Rattle.speculation.specs.declared.history.Entry.{Entry}
 use Rattle.speculation.specs.declared.history.Entry.TheVariants.{Lend}
 use Rattle.speculation.specs.Run.{Mark}
 use Rattle.speculation.specs.Record.{output_of}
-use Rattle.speculation.specs.Core.{Finished as CoreFinished, opening}
+use Rattle.speculation.specs.Core.{opening}
 use Rattle.speculation.specs.Law.{IsComplete}
 use Rattle.speculation_law.proofs.Histories.{law-partial, law-complete}
-use Rattle.guest_model.specs.declared.end.End.{End}
 use Rattle.region_ledger.specs.Ledger.{core_finished}
 use Rattle.region_ledger.specs.declared.finished.Finished.{Finished}
 use Rattle.guest_streams.specs.GuestStreams.{Sinks, GetsAll, GetsPart, StopsShort, end_of}
@@ -15,7 +14,7 @@ use Rattle.guest_streams.specs.declared.fault.OutputFault.{OutputFault}
 use Rattle.guest_streams.specs.declared.fault.OutputFault.TheVariants as F
 use Rattle.guest_streams.proofs.OnStreams.{GetsAll-nothing, GetsAll-more, StopsShort-amid, GetsPart-of}
 use Rattle.track_board.specs.declared.outcome.Outcome.{Outcome}
-use Rattle.track_board.specs.Value.{Posted, GuestCore, IsKnown, machine_of, start_state, core_of}
+use Rattle.track_board.specs.Value.{Posted, IsKnown, machine_of, start_state, core_of}
 use Rattle.track_board.specs.Settles.{verified_of, finish_of}
 use Rattle.serial_run.specs.declared.conducted.Conducted.{Conducted}
 use Rattle.serial_run.specs.declared.conducted.Conducted.TheVariants as C
@@ -23,7 +22,7 @@ use Rattle.serial_run.specs.Conducting.{alone_of}
 use Rattle.serial_run.specs.Rounds.{answer_to}
 use Rattle.serial_run.proofs.Releases.{total-run}
 use Rattle.serial_run.proofs.OnRounds.{exact-of}
-use Rattle.serial_run.proofs.OnOutcomes.{released-first, end_of-core_end, Found, found-by}
+use Rattle.serial_run.proofs.OnOutcomes.{released-first, end_of-core_end}
 use Rattle.worker_gate.specs.declared.kinds.Round.{Round}
 use Rattle.worker_gate.specs.Seats.{BoardPass, seen_of}
 use Rattle.worker_gate.specs.Rounds.{RoundIs}

@@ -1,34 +1,34 @@
 -- The conductor's turns: what they release, and how many loans seat 0 has behind them.
-use Rattle.std.proofs.Common.{◌≡◌, ◌≢◌, ℕ, zero, suc, ◌+◌, ◌-◌, ◌<◌, ◌≤◌, Bool, true, false, if◌then◌else◌, is_some, ◌||◌, nat_eq, List, [], ◌∷◌, ◌++◌, length, Option, Some, None, Result, Ok, Err, refl, sym, ap, ◌∙◌, subst, append_assoc, append-nil, arith}
+use Rattle.std.proofs.Common.{◌≡◌, ℕ, ◌-◌, ◌<◌, ◌≤◌, Bool, true, false, if◌then◌else◌, is_some, ◌||◌, List, [], ◌∷◌, ◌++◌, length, Option, Some, None, Result, Ok, Err, refl, sym, ap, ◌∙◌, subst, append_assoc, append-nil, arith}
 use Rattle.speculation.specs.declared.tracks.Name.{Name}
 use Rattle.speculation.specs.declared.tracks.OpenLoan.{OpenLoan}
 use Rattle.speculation.specs.declared.history.Entry.{Entry}
-use Rattle.speculation.specs.declared.history.Entry.TheVariants.{Lend, Back, Gone, Fork, Cross, Keep, Discard, Release, Finish, Halt}
+use Rattle.speculation.specs.declared.history.Entry.TheVariants.{Lend, Back, Gone, Release, Halt}
 use Rattle.speculation.specs.Run.{Mark, marks_upto}
-use Rattle.speculation.specs.Core.{Core, over, verified, front_home, front}
-use Rattle.speculation.specs.Events.{released_by, released_core}
+use Rattle.speculation.specs.Core.{over, verified, front_home, front}
+use Rattle.speculation.specs.Events.{released_by}
 use Rattle.speculation.specs.Loans.{owner_of, IsForeign, loans_after}
 use Rattle.speculation_law.proofs.SerialRounds.{verified-released}
 use Rattle.region_ledger.specs.declared.finished.Finished.{Finished}
 use Rattle.track_board.specs.declared.outcome.Outcome.{Outcome}
 use Rattle.track_board.specs.Value.{Posted, GuestCore, IsKnown, machine_of, core_of, posted}
-use Rattle.track_board.specs.Settles.{Settles, due_of, verified_of, released_with, finish_of, IsOutcome}
+use Rattle.track_board.specs.Settles.{Settles, verified_of, released_with, finish_of}
 use Rattle.track_board.specs.Others.{OthersAct, extended}
 use Rattle.track_board.proofs.Others.{others-settle, others-release, others-none}
 use Rattle.serial_run.specs.Quiet.{IsQuiet, AreQuiet}
 use Rattle.serial_run.specs.Rounds.{TakesVerified, SettlesSome}
 use Rattle.serial_run.proofs.Releases.{quiet-append}
-use Rattle.serial_run.proofs.OnRounds.{ExtendsQuietly, extends-known, quietly, quiet-released, settles-quiet, extends-none, released-extends, release-is, release-released}
+use Rattle.serial_run.proofs.OnRounds.{ExtendsQuietly, extends-known, quiet-released, released-extends, release-is, release-released}
 use Rattle.worker_gate.specs.declared.kinds.Round.{Round}
 use Rattle.worker_gate.specs.declared.kinds.Round.TheVariants as R
 use Rattle.worker_gate.specs.declared.releases.Verified.{Verified}
 use Rattle.worker_gate.specs.declared.releases.Closed.{Closed}
 use Rattle.worker_gate.specs.Seats.{BoardPass, seen_of, is_seat, own_entries, own_loans, seat_count, Goes, Halts, ActsAlone}
-use Rattle.worker_gate.specs.Rounds.{Ends, HasWorked, HaltsInRound, HaltedFirst, HaltedByLoss, HaltedLast, RoundIs}
+use Rattle.worker_gate.specs.Rounds.{Ends, HaltsInRound, HaltedFirst, HaltedByLoss, HaltedLast, RoundIs}
 use Rattle.worker_gate.specs.Conducting.{Hands, HandsOut, IsClosed, Takes, Closes, SeatsBelow}
 use Rattle.worker_gate.proofs.Going.{goes-foreign}
 use Rattle.worker_gate.proofs.OwnLoans.{goes-loans, loans-append}
-use Rattle.worker_gate.proofs.OnActs.{alone-then, alone-settle, alone-halt}
+use Rattle.worker_gate.proofs.OnActs.{alone-then, alone-settle}
 use Rattle.worker_gate.proofs.OnTurns.{IsTurn, others-before, left-seen, seats-left}
 
 -- ---- only seat 0 releases

@@ -1,9 +1,8 @@
 -- What a worker does with the board in one turn.
-use Rattle.std.proofs.Common.{◌≡◌, ◌≢◌, ◌⊎◌, inl, inr, ℕ, Bool, true, false, if◌then◌else◌, List, [], ◌∷◌, ◌++◌, Option, Some, None, Result, Ok, Err, refl, sym, ap, ap₂, ◌∙◌, subst}
+use Rattle.std.proofs.Common.{◌≡◌, ◌⊎◌, inl, inr, ℕ, true, false, if◌then◌else◌, [], ◌∷◌, Option, Some, None, Result, Ok, Err, refl, sym, ap, ap₂, ◌∙◌, subst}
 use Rattle.std.proofs.lemmas.Option.{same_Some}
 use Rattle.speculation.specs.declared.tracks.Name.{Name}
 use Rattle.speculation.specs.declared.tracks.OpenLoan.{OpenLoan}
-use Rattle.speculation.specs.declared.history.Entry.{Entry}
 use Rattle.speculation.specs.declared.history.Entry.TheVariants as E
 use Rattle.speculation.specs.Core.{over, find_loan}
 use Rattle.speculation.specs.Events.{gone_live}
@@ -11,17 +10,15 @@ use Rattle.speculation.specs.Loans.{owner_of, seat_of, loans_after}
 use Rattle.track_board.specs.declared.loan.Loan.{Loan}
 use Rattle.track_board.specs.declared.loan.Back.{Back}
 use Rattle.track_board.specs.declared.loan.Back.TheVariants.{Taken, Dropped, Over}
-use Rattle.track_board.specs.Value.{Posted, GuestCore, IsKnown, core_of, posted}
-use Rattle.track_board.specs.Loans.{IsLoanOf, IsLiveLoan, LendIs, IsReturned, WasDropped, back_by, back_entry, oldest_lendable}
+use Rattle.track_board.specs.Value.{Posted, IsKnown, core_of, posted}
+use Rattle.track_board.specs.Loans.{IsLoanOf, IsLiveLoan, LendIs, IsReturned, WasDropped, back_by, back_entry}
 use Rattle.track_board.specs.Settles.{Settles, due_of}
-use Rattle.track_board.specs.Others.{OthersAct, IsOut}
+use Rattle.track_board.specs.Others.{IsOut}
 use Rattle.track_board.proofs.Foundation.{posted-core}
 use Rattle.track_board.proofs.Gone.{event-gone}
 use Rattle.track_board.proofs.Others.{others-none, others-then, others-settle, others-lend, others-halt, others-back, others-gone, seat-told, lent-out}
-use Rattle.worker_gate.specs.declared.acts.Found.{Found}
-use Rattle.worker_gate.specs.declared.acts.Found.TheVariants as F
 use Rattle.worker_gate.specs.Seats.{HaltsAt, Goes, Halts, ActsAlone}
-use Rattle.worker_gate.specs.Rounds.{Ends, IsSettled, SettledIs, IsIdle, FoundIs, HasEnded, HaltsEnding, HaltedAfterEnd, EndIs}
+use Rattle.worker_gate.specs.Rounds.{Ends, IsSettled, SettledIs, IsIdle, HasEnded, HaltedAfterEnd, EndIs}
 use Rattle.worker_gate.proofs.Going.{goes-foreign, goes-one, goes-then, halts-one, halts-then}
 
 -- ---- the seat alone

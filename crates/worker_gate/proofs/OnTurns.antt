@@ -1,9 +1,8 @@
 -- A turn: what the pass had seen, the board that it entered to, and the board that it left.
-use Rattle.std.proofs.Common.{◌≡◌, ◌≢◌, ℕ, suc, true, false, List, [], ◌∷◌, ◌++◌, Result, Ok, Err, ◌<◌, ◌≤◌, append_assoc, append-nil, refl, sym, ap, ap₂, ◌∙◌, subst, arith}
+use Rattle.std.proofs.Common.{◌≡◌, ◌≢◌, ℕ, suc, true, false, List, [], ◌∷◌, ◌++◌, Result, Ok, Err, ◌<◌, ◌≤◌, append_assoc, append-nil, sym, ap, ap₂, ◌∙◌, subst, arith}
 use Rattle.std.proofs.lemmas.List.{append_cancel_left}
 use Rattle.speculation.specs.declared.tracks.Name.{Name}
 use Rattle.speculation.specs.declared.history.Entry.{Entry}
-use Rattle.speculation.specs.declared.history.Entry.TheVariants as E
 use Rattle.speculation.specs.Loans.{owner_of, IsForeign}
 use Rattle.board_lock.specs.Entries.{Foreign}
 use Rattle.board_lock.specs.Passes.{ExtendsPass, MayLeave}
@@ -12,11 +11,11 @@ use Rattle.track_board.specs.declared.loan.Loan.{Loan}
 use Rattle.track_board.specs.Value.{Posted, IsKnown}
 use Rattle.track_board.specs.Loans.{IsLoanOf}
 use Rattle.track_board.specs.Owners.{program_of, posted_by}
-use Rattle.track_board.specs.Others.{OthersAct, MayComeHome, extended}
+use Rattle.track_board.specs.Others.{OthersAct, MayComeHome}
 use Rattle.track_board.proofs.Others.{home-stays, lent-stays}
 use Rattle.worker_gate.specs.declared.acts.Found.{Found}
 use Rattle.worker_gate.specs.declared.acts.Found.TheVariants as F
-use Rattle.worker_gate.specs.Seats.{BoardPass, seen_of, ActsAlone, Halts}
+use Rattle.worker_gate.specs.Seats.{BoardPass, seen_of, ActsAlone}
 use Rattle.worker_gate.specs.Rounds.{FoundIs, EndIs, HaltsEnding, HaltedByEnd, HaltedAfterEnd}
 use Rattle.worker_gate.proofs.Going.{goes-after, halts-after}
 

@@ -1,5 +1,5 @@
 -- How many loans a seat has, by its own entries: each Lend of its is one more, and each end of a loan of its one less.
-use Rattle.std.proofs.Common.{◌≡◌, ◌≢◌, ℕ, zero, suc, ◌+◌, Bool, true, false, if◌then◌else◌, nat_eq, List, [], ◌∷◌, ◌++◌, Option, Some, None, refl, sym, ap, ◌∙◌, subst, append_assoc, append-nil, arith}
+use Rattle.std.proofs.Common.{◌≡◌, ℕ, suc, ◌+◌, Bool, true, false, if◌then◌else◌, nat_eq, List, [], ◌∷◌, ◌++◌, Some, None, refl, ap, ◌∙◌, append_assoc, append-nil, arith}
 use Rattle.speculation.specs.declared.tracks.Name.{Name}
 use Rattle.speculation.specs.declared.tracks.OpenLoan.{OpenLoan}
 use Rattle.speculation.specs.declared.history.Entry.{Entry}
@@ -12,7 +12,7 @@ use Rattle.track_board.specs.Value.{Posted}
 use Rattle.worker_gate.specs.Seats.{one_of, seat_count, own_loans, is_seat, own_entries, Goes, Halts}
 use Rattle.worker_gate.specs.declared.kinds.Round.{Round}
 use Rattle.worker_gate.specs.declared.kinds.Round.TheVariants as R
-use Rattle.worker_gate.specs.Rounds.{Ends, HasWorked, HaltsInRound, HaltedFirst, HaltedByLoss, HaltedLast, RoundIs}
+use Rattle.worker_gate.specs.Rounds.{Ends, HaltsInRound, HaltedFirst, HaltedByLoss, HaltedLast, RoundIs}
 use Rattle.worker_gate.proofs.Going.{own-append, own-one}
 
 -- how many of these entries lend a track, and how many end a loan

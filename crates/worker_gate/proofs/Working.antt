@@ -1,13 +1,11 @@
 -- Rounds of a worker, one after another.
-use Rattle.std.proofs.Common.{◌≡◌, ℕ, true, List, [], ◌∷◌, ◌++◌, refl, sym, ap, ◌∙◌, subst}
+use Rattle.std.proofs.Common.{◌≡◌, ℕ, [], ◌∷◌, ◌++◌, refl, sym, ap, ◌∙◌, subst}
 use Rattle.speculation.specs.declared.tracks.Name.{Name}
-use Rattle.speculation.specs.declared.history.Entry.{Entry}
 use Rattle.speculation.specs.declared.history.Entry.TheVariants.{Lend, Gone, Halt}
-use Rattle.speculation.specs.Core.{over}
-use Rattle.track_board.specs.Value.{Posted, core_of}
+use Rattle.track_board.specs.Value.{Posted}
 use Rattle.track_board.proofs.Others.{others-none}
 use Rattle.serial_run.proofs.Releases.{quiet-append}
-use Rattle.worker_gate.specs.Seats.{BoardPass, seen_of, own_loans, Goes, Halts}
+use Rattle.worker_gate.specs.Seats.{BoardPass, seen_of, own_loans, Goes}
 use Rattle.worker_gate.specs.Rounds.{HasEnded, HaltsEnding, HaltedByEnd, HaltedAfterEnd, HasWorked, HaltsInRound, HaltedFirst, HaltedByLoss, HaltedLast, Works, WorksUpToHalt}
 use Rattle.worker_gate.proofs.Going.{goes-foreign, goes-then, halts-then}
 use Rattle.worker_gate.proofs.Leading.{ends-quiet}

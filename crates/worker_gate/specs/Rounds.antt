@@ -1,10 +1,9 @@
 -- What a worker does with a board, turn by turn
-use Rattle.std.specs.Prelude.{◌≡◌, ℕ, true, false, List, [], ◌∷◌, ◌++◌, None, Result, Ok, Err}
+use Rattle.std.specs.Prelude.{◌≡◌, ℕ, true, false, List, [], ◌∷◌, None, Result, Ok, Err}
 use Rattle.speculation.specs.declared.tracks.Name.{Name}
 use Rattle.speculation.specs.declared.history.Entry.{Entry}
 use Rattle.speculation.specs.declared.history.Entry.TheVariants as E
 use Rattle.speculation.specs.Core.{over}
-use Rattle.track_board.specs.declared.loan.Loan.{Loan}
 use Rattle.track_board.specs.Value.{Posted, core_of}
 use Rattle.track_board.specs.Loans.{oldest_lendable}
 use Rattle.track_board.specs.Settles.{due_of}

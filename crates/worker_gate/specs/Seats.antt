@@ -1,9 +1,8 @@
 -- What a pass of the board's lock has seen, and how a board goes on from there by the entries of one seat among others
-use Rattle.std.specs.Prelude.{◌≡◌, ◌≢◌, ℕ, zero, suc, ◌+◌, Bool, true, false, List, [], ◌∷◌, ◌++◌, Option, Some, None, nat_eq, if◌then◌else◌}
-use Rattle.speculation.specs.declared.tracks.Name.{Name}
+use Rattle.std.specs.Prelude.{◌≡◌, ◌≢◌, ℕ, ◌+◌, Bool, true, false, List, [], ◌∷◌, ◌++◌, Option, Some, None, nat_eq, if◌then◌else◌}
 use Rattle.speculation.specs.declared.tracks.OpenLoan.{OpenLoan}
 use Rattle.speculation.specs.declared.history.Entry.{Entry}
-use Rattle.speculation.specs.declared.history.Entry.TheVariants.{Lend, Back, Gone, Release, Halt}
+use Rattle.speculation.specs.declared.history.Entry.TheVariants.{Gone, Halt}
 use Rattle.speculation.specs.Core.{over}
 use Rattle.speculation.specs.Loans.{loans_after, owner_of}
 use Rattle.atomic_table.specs.Seated.{TableId}

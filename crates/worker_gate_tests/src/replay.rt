@@ -1,6 +1,6 @@
 //! A board that follows a history.
 
-ghost use Rattle.std.specs.Prelude.{◌≡◌, ◌≢◌, ◌≤◌, ◌+◌, ℕ, Some, None, length, slice_get, slice_set, IfOk, IfSome};
+ghost use Rattle.std.specs.Prelude.{◌≡◌, ◌≢◌, ◌≤◌, ◌+◌, ℕ, suc, Some, None, length, slice_get, slice_set, IfOk, IfSome};
 ghost use Rattle.track_board.specs.Value.{IsKnown};
 ghost use Rattle.track_board.specs.Others.{OthersAct, MayComeHome};
 
@@ -33,8 +33,32 @@ fn next_seat(out: &Vec<Option<Loan>>) -> u64
 }
 
 /// The place of the track of this name.
-fn place_of(out: &[Option<Loan>], name: Name) -> Option<usize> {
-    out.iter().position(|slot| slot.as_ref().is_some_and(|loan| loan.name() == name))
+fn place_of(out: &[Option<Loan>], name: Name) -> Result<usize, Fail> {
+    match out
+        .iter()
+        .position(|slot| matches!(slot, Some(loan) if loan.name() == name))
+    {
+        Some(place) => Ok(place),
+        None => Err(Fail::new("a track comes home that isn't out")),
+    }
+}
+
+/// Hands out what is verified.
+fn release(board: &mut Board) -> Result<(), Fail>
+    ensures others { (seat : ℕ) → OthersAct (suc seat) board.old board.new }
+    ensures known { IsKnown board.new }
+{
+    board.release()?;
+    Ok(())
+}
+
+/// Does what is due.
+fn settle(board: &mut Board) -> Result<(), Fail>
+    ensures others { (seat : ℕ) → OthersAct (suc seat) board.old board.new }
+    ensures known { IsKnown board.new }
+{
+    board.settle()?;
+    Ok(())
 }
 
 /// Takes the loan at this place out, if there is one.
@@ -87,13 +111,17 @@ impl Replay {
         &self.board
     }
 
-    /// Follows an entry: a track goes out, one comes home, bytes are released, or the due event is done.
+    /// Follows an entry: a track goes out, one comes home, bytes are released, or all that is due is done, which the entries
+    /// behind it tell.
     fn follow(&mut self, entry: Entry) -> Result<(), Fail> {
         match entry {
             Entry::Lend { .. } => self.lend(),
-            Entry::Back { name, .. } | Entry::Gone { name } => self.bring_home(name),
+            Entry::Back { name, .. } | Entry::Gone { name } => {
+                let place = place_of(&self.out, name)?;
+                self.bring_home(place)
+            }
             Entry::Release { .. } => self.release(),
-            _ => self.settle_one(),
+            _ => self.settle(),
         }
     }
 
@@ -108,10 +136,7 @@ impl Replay {
         Ok(())
     }
 
-    fn bring_home(&mut self, name: Name) -> Result<(), Fail> {
-        let Some(place) = place_of(&self.out, name) else {
-            return Err(Fail::new("a track comes home that isn't out"));
-        };
+    fn bring_home(&mut self, place: usize) -> Result<(), Fail> {
         let Some(loan) = take(&mut self.out, place) else {
             return Err(Fail::new("no track is out from this place"));
         };
@@ -120,13 +145,11 @@ impl Replay {
     }
 
     fn release(&mut self) -> Result<(), Fail> {
-        self.board.release()?;
-        Ok(())
+        release(&mut self.board)
     }
 
-    fn settle_one(&mut self) -> Result<(), Fail> {
-        self.board.settle_one()?;
-        Ok(())
+    fn settle(&mut self) -> Result<(), Fail> {
+        settle(&mut self.board)
     }
 }
 

@@ -1,6 +1,6 @@
 //! What no clause says: that runs with workers get done, and the same output for every number of them.
 
-ghost use Rattle.std.specs.Prelude.{◌≤◌};
+ghost use Rattle.std.specs.Prelude.{◌≡◌, ◌≤◌};
 
 use crate::counting::Counting;
 use crate::replay::follows;
@@ -46,7 +46,10 @@ const ENDS_INSIDE: [u32; 4] = [
 ];
 
 /// This many workers, and no sink that fails.
-fn plain(image: &[u8], tracks: u64, workers: u64) -> Given<'_> {
+fn plain(image: &[u8], tracks: u64, workers: u64) -> Given<'_>
+    ensures tracks { result.tracks ≡ tracks }
+    ensures workers { result.workers ≡ workers }
+{
     Given {
         image,
         tracks,
@@ -70,7 +73,10 @@ fn outcome_of(rt: &impl Abort, got: Got) -> (Outcome, Vec<u8>) {
 fn assert_lines(rt: &impl Abort, alloc: Global, entries: &[Entry]) -> Result<(), Fail> {
     for entry in entries {
         let text = entry_text(alloc, entry)?;
-        assert_eq!(rt; text.strip_suffix('\n').and_then(read_entry), Some(*entry));
+        let Some(line) = text.strip_suffix('\n') else {
+            return Err(Fail::new("a line without its end"));
+        };
+        assert_eq!(rt; read_entry(line), Some(*entry));
     }
     Ok(())
 }
@@ -100,6 +106,7 @@ fn assert_done<R: Abort + Threads + Wait + Clock + Sync>(
 fn any_number_of_workers_writes_the_same(rt: HostRuntime) -> Result<(), Fail> {
     let image = generate(rt.alloc(), 1, 6)?;
     for (tracks, workers) in CASES {
+        assert!(rt; 1 <= tracks && tracks <= 32 && workers <= 64);
         let given = plain(image.as_slice(), tracks, workers);
         assert_done(&rt, rt.alloc(), &given, &SIX_REGIONS, End::Exit(0))?;
     }

@@ -1,6 +1,4 @@
-use Rattle.std.proofs.Common.{Option, Some, None, sym, ◌∙◌, subst}
-use Rattle.track_board.specs.declared.loan.Loan.{Loan}
-use Rattle.track_board.specs.Loans.{LendIs}
+use Rattle.std.proofs.Common.{sym, ◌∙◌}
 use Rattle.worker_gate.proofs.OnActs.{alone-then, alone-same, alone-halt, alone-lent, found-lent, found-nothing, found-halted}
 use Rattle.worker_gate.proofs.acts.take.Goals as goal
 

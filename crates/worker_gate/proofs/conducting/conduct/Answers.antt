@@ -1,4 +1,4 @@
-use Rattle.std.proofs.Common.{◌≡◌, ◌+◌, ◌≤◌, ap, ◌∙◌, arith}
+use Rattle.std.proofs.Common.{◌≡◌, ◌+◌, ◌≤◌, ap, arith}
 use Rattle.worker_gate.specs.Seats.{BoardPass, seen_of}
 use Rattle.worker_gate.proofs.Concluding.{led-conducts, concludes-conducts}
 use Rattle.worker_gate.proofs.conducting.conduct.Goals as goal
