@@ -1,0 +1,9 @@
+pub mod Behind
+pub mod Decimals
+pub mod FieldReads
+pub mod Hexadecimals
+pub mod Languages
+pub mod Literals
+pub mod OperandReads
+pub mod Steps
+pub mod Words
