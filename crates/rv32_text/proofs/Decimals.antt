@@ -30,12 +30,12 @@ nil_before [] ys e = refl
 nil_before (x ∷ xs) ys e = absurd (cc)
 
 -- a list with a last element that is cut in two
-record CutBeforeLast (xs ys zs : List ℕ) (a : ℕ) : Type 0 where
-  middle : List ℕ
-  behind : zs ≡ middle ++ (a ∷ [])
-  before : xs ≡ ys ++ middle
+pub record CutBeforeLast (xs ys zs : List ℕ) (a : ℕ) : Type 0 where
+  pub middle : List ℕ
+  pub behind : zs ≡ middle ++ (a ∷ [])
+  pub before : xs ≡ ys ++ middle
 
-cut_before_last : (xs ys zs : List ℕ) (a : ℕ) → xs ++ (a ∷ []) ≡ ys ++ zs → (zs ≡ []) ⊎ CutBeforeLast xs ys zs a
+pub cut_before_last : (xs ys zs : List ℕ) (a : ℕ) → xs ++ (a ∷ []) ≡ ys ++ zs → (zs ≡ []) ⊎ CutBeforeLast xs ys zs a
 cut_before_last xs [] zs a e = inr (record { middle = xs; behind = sym e; before = refl })
 cut_before_last [] (y ∷ ys) zs a e = inl (nil_from_append ys zs (cc))
 cut_before_last (x ∷ xs) (y ∷ ys) zs a e =

@@ -2,7 +2,9 @@
 use Rattle.std.proofs.Common.{◌≡◌, ◌≢◌, ℕ, zero, suc, ◌+◌, ◌<◌, ◌≤◌, ◌^◌, Bool, true, false, List, [], ◌∷◌, ◌++◌, length, drop, refl, sym, ap, subst, ◌∙◌, Option, Some, None, arith, decimal, ℤ, pos, negsuc}
 use Rattle.std.specs.Prelude.{option_map, ◌≤ℤ◌, ◌%◌}
 use Rattle.std.specs.Fmt.{signed_decimal}
-use Rattle.std.proofs.lemmas.Int.{ints}
+use Rattle.std.proofs.lemmas.Int.{ints, to_z-of_z}
+use mir.Val.{SFits, to_z, of_z}
+use mir.Syntax.{w64}
 use Rattle.std.proofs.lemmas.Bool.Decides.{nat_tests}
 use Rattle.report_text.specs.Texts.{hex_digit}
 use Rattle.rv32_asm.specs.Encoding.{IsShortOffset, IsBranchOffset, IsJumpOffset, IsShiftAmount}
@@ -84,6 +86,24 @@ small_negative : (o : Offset) (n : ℕ) → IsOffset o (negsuc n) → suc n < 2 
 small_negative Offsets.Short n h = omega (arith, ints, h.0)
 small_negative Offsets.Branch n h = omega (arith, ints, h.0)
 small_negative Offsets.Jump n h = omega (arith, ints, h.0)
+
+-- a field's value fits 64 bits
+pub field_fits : (field : Field) (z : ℤ) → Fits field z → SFits w64 z
+field_fits Fields.Register (pos n) h = record { sfits = omega (arith, ints, h.1) }
+field_fits Fields.Register (negsuc n) h = absurd (no_negative_amount n h)
+field_fits Fields.Amount (pos n) h = record { sfits = omega (arith, ints, h.1) }
+field_fits Fields.Amount (negsuc n) h = absurd (no_negative_amount n h)
+field_fits (Fields.Offset Offsets.Short) (pos n) h = record { sfits = omega (arith, ints, h.1) }
+field_fits (Fields.Offset Offsets.Short) (negsuc n) h = record { sfits = omega (arith, ints, h.0) }
+field_fits (Fields.Offset Offsets.Branch) (pos n) h = record { sfits = omega (arith, ints, h.1) }
+field_fits (Fields.Offset Offsets.Branch) (negsuc n) h = record { sfits = omega (arith, ints, h.0) }
+field_fits (Fields.Offset Offsets.Jump) (pos n) h = record { sfits = omega (arith, ints, h.1) }
+field_fits (Fields.Offset Offsets.Jump) (negsuc n) h = record { sfits = omega (arith, ints, h.0) }
+field_fits Fields.Upper (pos n) h = record { sfits = omega (arith, ints, h.1) }
+field_fits Fields.Upper (negsuc n) h = absurd (omega (arith, ints, h.0))
+
+pub value_same : (field : Field) (z : ℤ) → Fits field z → to_z w64 (of_z w64 z) ≡ z
+value_same field z h = to_z-of_z w64 z (field_fits field z h)
 
 -- ---- the letters of fields
 

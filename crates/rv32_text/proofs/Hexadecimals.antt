@@ -178,6 +178,11 @@ small_part digits used n inside h =
     let bound : 16 ^ used ≤ 16 ^ 7 = pow-le-pow_right some few in
     omega (arith, h.0)
 
+pub small_next : (used n d : ℕ) → n < 16 ^ used → d < 16 → n * 16 + d < 16 ^ (used + 1)
+small_next used n d h k =
+    let power : 16 ^ (used + 1) ≡ 16 ^ used * 16 = ap (λ (x : ℕ). 16 ^ x) (add-one used) ∙ pow-suc 16 used in
+    omega arith
+
 -- ---- what is refused
 
 module _ (digits : Digits) (used n letter : ℕ) where

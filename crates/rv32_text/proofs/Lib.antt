@@ -1,9 +1,13 @@
 pub mod Behind
 pub mod Decimals
+pub mod FaultPlaces
 pub mod FieldReads
 pub mod Hexadecimals
 pub mod Languages
 pub mod Literals
+pub mod MnemonicTable
 pub mod OperandReads
 pub mod Steps
+pub mod WordShapes
+pub mod WordTexts
 pub mod Words

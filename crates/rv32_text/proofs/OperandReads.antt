@@ -176,6 +176,12 @@ module _ {V : Type 0} (Fits : V → Type 0) (write : V → List ℕ) (letters : 
         ap (λ (x : List ℕ). ended x) (drop-drop used from text) ∙ (e ∙ ap (λ (x : List ℕ). x ++ tail) m.is) in
       takes Fits write letters m.mark m.behind m.outside (drop from text) tail used z h there ∙ ap (λ (x : List ℕ). (write z ++ x) ++ tail) (sym m.is)
 
+  pub takes_operand : (text : List ℕ) (from used : ℕ) (z : V) → Reads Fits write (drop from text) used (Some z)
+      → ended (drop (from + used) text) ≡ literal ++ rest (drop (from + used) text) (length literal) → rest text from ≡ (write z ++ literal) ++ rest text (from + used + length literal)
+  takes_operand text from used z h e =
+      takes_literal text (rest (drop (from + used) text) (length literal)) from used z h e
+      ∙ ap (λ (x : List ℕ). (write z ++ literal) ++ ended x) (drop-drop (length literal) (from + used) text)
+
 -- a literal and the end of the text behind it
 pub differs_early : (literal s : List ℕ) (k : ℕ) → Differs literal s k → Differs (ended literal) s k
 differs_early literal s k d = record {

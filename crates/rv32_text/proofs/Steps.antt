@@ -62,3 +62,6 @@ fence_digit place n h = record {
   opcode_high = λ e. (let there : CanComplete Rows.Fence 7 n = subst (λ (x : ℕ). CanComplete Rows.Fence (x + 1) n) e h in let bits = fence_bits (n * 16 ^ 1 + 15) there.1.1 in omega (arith, bits.opcode_is));
   opcode_low = λ e. (let there : CanComplete Rows.Fence 8 n = subst (λ (x : ℕ). CanComplete Rows.Fence (x + 1) n) e h in let bits = fence_bits n there.1.1 in omega (arith, bits.opcode_is));
 }
+
+pub last_small : (n : ℕ) → CanComplete Rows.Word 7 (n / 16) → n < 2 ^ 32
+last_small n h = omega (arith, h.0)

@@ -1,7 +1,10 @@
+pub mod FaultPlace
 pub mod Fields
 pub mod Hexadecimals
 pub mod Languages
+pub mod Mnemonics
 pub mod Numbers
 pub mod Operands
+pub mod Shapes
 pub mod Starts
 pub mod Texts

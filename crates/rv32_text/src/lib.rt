@@ -4,10 +4,14 @@
 mod digits;
 mod expect;
 mod fields;
+mod instruction;
 mod mnemonic;
 mod number;
 mod operands;
+mod reader;
+mod start;
 mod write;
 
 pub use basic_types::NoMemory;
+pub use reader::{TextFault, read};
 pub use write::{WordText, list};

@@ -21,12 +21,12 @@ pub(crate) fn operand(text: &[u8], from: usize, field: Field, after: &str) -> Re
 {
     let read = read_field(&text[from..], field);
     let end = from + read.used;
-    let Some(value) = read.value else {
-        return Err(end);
-    };
-    match expect(&text[end..], after) {
-        Ok(()) => Ok((value, end + after.len())),
-        Err(shared) => Err(end + shared),
+    match read.value {
+        None => Err(end),
+        Some(value) => match expect(&text[end..], after) {
+            Ok(()) => Ok((value, end + after.len())),
+            Err(shared) => Err(end + shared),
+        },
     }
 }
 
@@ -42,12 +42,12 @@ pub(crate) fn last_operand(text: &[u8], from: usize, field: Field, after: &str) 
 {
     let read = read_field(&text[from..], field);
     let end = from + read.used;
-    let Some(value) = read.value else {
-        return Err(end);
-    };
-    match expect_last(&text[end..], after) {
-        Ok(()) => Ok(value),
-        Err(shared) => Err(end + shared),
+    match read.value {
+        None => Err(end),
+        Some(value) => match expect_last(&text[end..], after) {
+            Ok(()) => Ok(value),
+            Err(shared) => Err(end + shared),
+        },
     }
 }
 

@@ -11,6 +11,40 @@ use rv32_decode::decode;
 use std::alloc::Global;
 use std::fmt;
 
+/// A byte, which prints as two hexadecimal digits in lower case.
+#[derive(Debug, Clone, Copy, PartialEq, Eq)]
+struct ByteDigits(u8);
+
+#[tactic(auto, using(std::proofs::lemmas::Fmt::hex_byte))]
+impl fmt::Display for ByteDigits {
+    ghost use Rattle.std.specs.Prelude.{Some};
+    ghost use Rattle.report_text.specs.Texts.{byte_text};
+
+    ghost output = { λ b. Some (byte_text b.0) };
+
+    fn fmt<W: fmt::Write>(&self, f: &mut fmt::Formatter<W>) -> fmt::Result {
+        let byte = self.0;
+        write!(f, "{byte:02x}")
+    }
+}
+
+/// A number below 16, which prints as a hexadecimal digit in lower case.
+#[derive(Debug, Clone, Copy, PartialEq, Eq)]
+struct HexDigit(u8);
+
+#[tactic(auto, using(std::proofs::lemmas::Fmt::hex_one_digit))]
+impl fmt::Display for HexDigit {
+    ghost use Rattle.std.specs.Prelude.{Some, ◌∷◌, [], ◌%◌};
+    ghost use Rattle.report_text.specs.Texts.{hex_digit};
+
+    ghost output = { λ d. Some (hex_digit (d.0 % 16) ∷ []) };
+
+    fn fmt<W: fmt::Write>(&self, f: &mut fmt::Formatter<W>) -> fmt::Result {
+        let digit = self.0 % 16;
+        write!(f, "{digit:x}")
+    }
+}
+
 /// An immediate of LUI or AUIPC, which prints as its bits 31 to 12: five hexadecimal digits in lower case.
 #[derive(Debug, Clone, Copy, PartialEq, Eq)]
 struct UpperDigits(u32);
@@ -22,9 +56,10 @@ impl fmt::Display for UpperDigits {
     ghost output = { λ u. Some (hex_text 5 (u.0 / 2 ^ 12)) };
 
     fn fmt<W: fmt::Write>(&self, f: &mut fmt::Formatter<W>) -> fmt::Result {
-        let [first, second, third, _] = self.0.to_be_bytes();
-        let last = third >> 4;
-        write!(f, "{first:02x}{second:02x}{last:x}")
+        let first = ByteDigits((self.0 >> 24) as u8);
+        let second = ByteDigits(((self.0 >> 16) % 256) as u8);
+        let last = HexDigit(((self.0 >> 12) % 16) as u8);
+        write!(f, "{first}{second}{last}")
     }
 }
 

@@ -1,6 +1,6 @@
 use Rattle.std.proofs.Common.{◌≡◌, ℕ, ◌+◌, ◌*◌, ◌<◌, ◌^◌, ◌∙◌, sym, arith}
 use Rattle.rv32_text.specs.Hexadecimals.{digit_count}
-use Rattle.rv32_text.proofs.Hexadecimals.{hex_next, small_part, refuses_letter, refuses_digit}
+use Rattle.rv32_text.proofs.Hexadecimals.{hex_next, small_part, small_next, refuses_letter, refuses_digit}
 use Rattle.rv32_text.proofs.digits.longer.Goals as goal
 
 pub returns-in_default : goal.returns-in_default
@@ -27,6 +27,7 @@ returns-then-may_begin c =
 pub returns-else-may_begin : goal.returns-else-may_begin
 returns-else-may_begin c =
     let inside : c.args.used < digit_count c.args.digits = omega (arith, c.requires.inside, c.if-used-count.false, c.count.ensures) in
-    refuses_digit c.args.digits c.args.used c.args.value c.args.letter (c.args.value * 16 + c.in-Some.digit) inside ?
+    refuses_digit c.args.digits c.args.used c.args.value c.args.letter (c.args.value * 16 + c.in-Some.digit) inside
+    (small_next c.args.used c.args.value c.in-Some.digit c.requires.begun.0 c.in-Some.ensures.0)
     (hex_next c.args.used c.args.value c.in-Some.digit c.args.letter c.in-Some.ensures.0 c.in-Some.ensures.1)
     (λ k. let held = c.may_begin.ensures.1 k in cc)
