@@ -1,13 +1,14 @@
 -- From where a reader stops to the place of a fault
-use Rattle.std.proofs.Common.{◌≡◌, ◌≢◌, ℕ, zero, suc, ◌+◌, ◌-◌, ◌<◌, ◌≤◌, ◌^◌, List, [], ◌∷◌, ◌++◌, length, get_or, take, drop, refl, sym, ap, subst, ◌∙◌, ◌⊎◌, inl, inr, arith, append_assoc, length-append}
-use Rattle.std.proofs.lemmas.List.{take_at, take-append-le, take-take, take-append-drop, get_or_at, append_cancel_left, append-nil}
+use Rattle.std.proofs.Common.{◌≡◌, ◌≢◌, ℕ, zero, suc, ◌+◌, ◌-◌, ◌<◌, ◌≤◌, ◌^◌, List, [], ◌∷◌, ◌++◌, length, get_or, take, drop, refl, sym, ap, subst, ◌∙◌, ◌⊎◌, inl, inr, arith, append_assoc, length-append, Result, Ok, Err}
+use Rattle.std.specs.Prelude.{MatchResult}
+use Rattle.std.proofs.lemmas.List.{take_at, take-append-le, take-take, take-append-drop, get_or_at, append_cancel_left, append_cancel_right, append-nil}
 use Rattle.std.proofs.lemmas.Bool.{cases_lt}
 use Rattle.guest_model.specs.InstructionTable.{instr}
 use Rattle.rv32_text.specs.declared.mnemonic.Mnemonic.{Mnemonic}
 use Rattle.rv32_text.specs.Languages.{ended, rest, Stops, StopsAt, Differs}
 use Rattle.rv32_text.specs.FaultPlace.{BeginsWordText, IsFaultPlace}
 use Rattle.rv32_text.specs.Mnemonics.{PartsBy, Longest, HasNoStart}
-use Rattle.rv32_text.specs.Shapes.{Shape}
+use Rattle.rv32_text.specs.Shapes.{Shape, IsWordRead}
 use Rattle.rv32_text.specs.Starts.{start_of, mnemonic_by}
 use Rattle.rv32_text.specs.Texts.{operands_by, text_of}
 use Rattle.rv32_text.proofs.Languages.{Each, each_append, each_front, each_back, cons_head}
@@ -160,3 +161,16 @@ module _ (text : List ℕ) (place : ℕ) (bytes : (i : ℕ) → get_or text i 0 
   pub no_word : (w : ℕ) → w < 2 ^ 32 → text ≢ text_of w
   no_word w small e =
       h.no_further (ended text) [] h.after (record { word = w; fits = small; is = ap (λ (x : List ℕ). ended x) e }) (append-nil (ended text) ∙ h.splits)
+
+-- ---- what a reader answers
+
+pub word_result : (m : Mnemonic) (text : List ℕ) (bytes : (i : ℕ) → get_or text i 0 < 256) (from : ℕ) → ended text ≡ start_of m ++ rest text (length (start_of m)) → from ≡ length (start_of m)
+    → (result : Result ℕ ℕ) → MatchResult result (IsWordRead m text from) (λ p. StopsAt (Shape m) text from p)
+    → MatchResult result (λ w. text ≡ text_of w) (λ p. IsFaultPlace text p × ((w : ℕ) → w < 2 ^ 32 → text ≢ text_of w))
+word_result m text bytes from begins same (Ok w) h =
+    append_cancel_right text (text_of w) (256 ∷ [])
+    (begins ∙ (ap (λ (n : ℕ). start_of m ++ rest text n) (sym same) ∙ (ap (λ (x : List ℕ). start_of m ++ x) h.is
+    ∙ (ap (λ (n : Mnemonic). start_of n ++ ended (operands_by (instr w) w)) (sym h.mnemonic_is) ∙ sym (start_is w)))))
+word_result m text bytes from begins same (Err p) h =
+    let s = stops_behind_start m text p begins (subst (λ (n : ℕ). StopsAt (Shape m) text n p) same h) in
+    (fault_place text p bytes s, no_word text p bytes s)

@@ -3,6 +3,7 @@ pub mod Decimals
 pub mod FaultPlaces
 pub mod FieldReads
 pub mod Hexadecimals
+pub mod InstructionReads
 pub mod Languages
 pub mod Literals
 pub mod MnemonicTable

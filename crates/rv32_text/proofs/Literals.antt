@@ -1,7 +1,8 @@
 -- A literal against the beginning of a text
 use Rattle.std.proofs.Common.{◌≡◌, ◌≢◌, ℕ, ◌+◌, ◌<◌, ◌≤◌, List, [], ◌∷◌, ◌++◌, length, get_or, take, drop, refl, sym, ap, ◌∙◌, arith, append_assoc}
 use Rattle.std.proofs.lemmas.List.{take-append-drop, length-take-le, drop_more, take_all}
-use Rattle.rv32_text.specs.Languages.{ended, rest, Differs}
+use Rattle.rv32_text.specs.Languages.{ended, rest, StopsAt, Differs}
+use Rattle.rv32_text.proofs.Languages.{cons_head}
 use Rattle.rv32_text.proofs.OperandReads.{differs_at_end}
 
 -- a text cut at one of its letters
@@ -48,3 +49,23 @@ pub differs_behind : (literal text : List ℕ) → ended text ≡ literal ++ res
 differs_behind literal text e inside more bytes =
     differs_at_end literal (ended text) (ended (drop (length literal + 1) text)) (get_or text (length literal) 0) (bytes (length literal))
     (e ∙ ap (λ (x : List ℕ). literal ++ ended x) (drop_more text (length literal) 0 (omega arith)))
+
+-- a letter where the text is to end
+pub stops_before_end : (text : List ℕ) (from : ℕ) → from < length text → get_or text from 0 < 256 → StopsAt (λ t. t ≡ ended []) text from from
+stops_before_end text from inside small = record {
+  count = 0;
+  place_is = omega arith;
+  stops = record {
+    front = [];
+    letter = get_or text from 0;
+    after = ended (drop (from + 1) text);
+    more = ended [];
+    splits = ap (λ (x : List ℕ). ended x) (drop_more text from 0 inside);
+    place_is = refl;
+    reached = refl;
+    no_further = λ t u v is e.
+      (let there : 256 ∷ u ≡ get_or text from 0 ∷ v = ap (λ (x : List ℕ). x ++ u) (sym is) ∙ e in
+      let same : 256 ≡ get_or text from 0 = cons_head 256 (get_or text from 0) u v there in
+      omega arith);
+  };
+}

@@ -1,5 +1,7 @@
 -- All mnemonics, and that no start of one begins another's
-use Rattle.std.proofs.Common.{◌≡◌, ℕ, Bool, true, false, ◌&&◌, cond, nat_eq, List, [], ◌∷◌, ◌++◌, Option, Some, None, refl, sym, ap, ◌∙◌}
+use Rattle.std.proofs.Common.{◌≡◌, ℕ, ◌≤◌, max, length, ◌⊎◌, inl, inr, arith, subst, Result, Ok, Err, Bool, true, false, ◌&&◌, cond, nat_eq, List, [], ◌∷◌, ◌++◌, Option, Some, None, refl, sym, ap, ◌∙◌}
+use Rattle.std.specs.Prelude.{MatchResult}
+use Rattle.std.proofs.lemmas.Bool.{cases_lt}
 use Rattle.guest_model.specs.declared.instr.UpperOp.TheVariants.{Lui, Auipc}
 use Rattle.guest_model.specs.declared.instr.Cond.TheVariants as Conds
 use Rattle.guest_model.specs.declared.instr.LoadWidth.TheVariants as Loads
@@ -9,7 +11,8 @@ use Rattle.guest_model.specs.declared.instr.RegOp.TheVariants as RegOps
 use Rattle.rv32_text.specs.declared.mnemonic.Mnemonic.{Mnemonic}
 use Rattle.rv32_text.specs.declared.mnemonic.Mnemonic.TheVariants as Mnemonics
 use Rattle.rv32_text.specs.Starts.{start_of}
-use Rattle.rv32_text.specs.Mnemonics.{PartsBy, EachParts}
+use Rattle.rv32_text.specs.Mnemonics.{PartsBy, EachParts, Longest, HasNoStart}
+use Rattle.rv32_text.specs.Languages.{ended, rest, Differs}
 
 abbrev pub all_mnemonics : List Mnemonic
 all_mnemonics =
@@ -148,3 +151,37 @@ each_part text place h Mnemonics.Fence = h.1.1.1.1.1.1.1.1.1.1.1.1.1.1.1.1.1.1.1
 each_part text place h Mnemonics.Ecall = h.1.1.1.1.1.1.1.1.1.1.1.1.1.1.1.1.1.1.1.1.1.1.1.1.1.1.1.1.1.1.1.1.1.1.1.1.1.1.1.1.1.1.1.1.1.1.0
 each_part text place h Mnemonics.Ebreak = h.1.1.1.1.1.1.1.1.1.1.1.1.1.1.1.1.1.1.1.1.1.1.1.1.1.1.1.1.1.1.1.1.1.1.1.1.1.1.1.1.1.1.1.1.1.1.1.0
 each_part text place h Mnemonics.Word = h.1.1.1.1.1.1.1.1.1.1.1.1.1.1.1.1.1.1.1.1.1.1.1.1.1.1.1.1.1.1.1.1.1.1.1.1.1.1.1.1.1.1.1.1.1.1.1.1.0
+
+-- ---- a loop over mnemonics
+
+pub parts_more : (text : List ℕ) (most shared : ℕ) (m : Mnemonic) → Differs (start_of m) (ended text) shared → (ms : List Mnemonic) → EachParts text most ms
+    → EachParts text (max most shared) (ms ++ (m ∷ []))
+parts_more text most shared m d [] h = (record { shared = shared; bound = omega arith; differs = d }, tt)
+parts_more text most shared m d (x ∷ xs) h =
+    (record { shared = h.0.shared; bound = (let old : h.0.shared ≤ most = h.0.bound in omega arith); differs = h.0.differs }, parts_more text most shared m d xs h.1)
+
+pub longest_more : (text : List ℕ) (most shared : ℕ) (m : Mnemonic) → Differs (start_of m) (ended text) shared → (most ≡ 0) ⊎ Longest text most
+    → (max most shared ≡ 0) ⊎ Longest text (max most shared)
+longest_more text most shared m d h =
+    elim (cases_lt most shared) [
+      | inl above ↦ (let is : max most shared ≡ shared = omega arith in inr (record { mnemonic = m; differs = subst (λ (n : ℕ). Differs (start_of m) (ended text) n) (sym is) d }))
+      | inr below ↦ (let is : max most shared ≡ most = omega arith in
+          elim h [
+            | inl none ↦ inl (is ∙ none)
+            | inr l ↦ inr (record { mnemonic = l.mnemonic; differs = subst (λ (n : ℕ). Differs (start_of l.mnemonic) (ended text) n) (sym is) l.differs })
+          ])
+    ]
+
+pub no_start : (text : List ℕ) (place : ℕ) → EachParts text place all_mnemonics → (place ≡ 0) ⊎ Longest text place → HasNoStart text place
+no_start text place h (inr l) = record { each = each_part text place h; longest = l }
+no_start text place h (inl none) =
+    let p = each_part text place h Mnemonics.Jal in
+    let bound : p.shared ≤ place = p.bound in
+    let is : p.shared ≡ place = omega arith in
+    record { each = each_part text place h; longest = record { mnemonic = Mnemonics.Jal; differs = subst (λ (n : ℕ). Differs (start_of Mnemonics.Jal) (ended text) n) is p.differs } }
+
+pub start_result : (text : List ℕ) (r : Result Mnemonic ℕ)
+    → MatchResult r (λ m. (ended text ≡ start_of m ++ rest text (length (start_of m))) × (length (start_of m) ≤ length text)) (λ place. EachParts text place all_mnemonics × ((place ≡ 0) ⊎ Longest text place))
+    → MatchResult r (λ m. (ended text ≡ start_of m ++ rest text (length (start_of m))) × (length (start_of m) ≤ length text)) (λ place. HasNoStart text place)
+start_result text (Ok m) h = h
+start_result text (Err place) h = no_start text place h.0 h.1

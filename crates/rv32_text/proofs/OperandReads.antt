@@ -1,5 +1,5 @@
 -- Values with literals behind them, read as far as their letters go
-use Rattle.std.proofs.Common.{◌≡◌, ◌≢◌, ℕ, ◌+◌, ◌<◌, ◌≤◌, List, [], ◌∷◌, ◌++◌, length, drop, refl, sym, ap, subst, ◌∙◌, ◌⊎◌, inl, inr, Option, Some, None, arith, append_assoc, length-append, length-drop}
+use Rattle.std.proofs.Common.{◌≡◌, ◌≢◌, ℕ, ◌+◌, ◌<◌, ◌≤◌, List, [], ◌∷◌, ◌++◌, length, drop, codes, refl, sym, ap, subst, ◌∙◌, ◌⊎◌, inl, inr, Option, Some, None, arith, append_assoc, length-append, length-drop}
 use Rattle.std.proofs.lemmas.List.{append_cancel_left, drop_at, drop-drop}
 use Rattle.rv32_text.specs.Languages.{ended, rest, Joined, Stops, StopsAt, Differs, CanBegin, Reads, OneOf}
 use Rattle.rv32_text.specs.Operands.{InField, IsMark}
@@ -144,6 +144,13 @@ module _ {V : Type 0} (Fits : V → Type 0) (write : V → List ℕ) (letters : 
     takes s tail used z h e =
         ended_is s used (Some z) h ∙ (ap (λ (x : List ℕ). x ++ ended h.after) (sym h.value_is.1)
         ∙ (ap (λ (x : List ℕ). write z ++ ended x) (sym (after_is s used (Some z) h)) ∙ (ap (λ (x : List ℕ). write z ++ x) e ∙ sym (append_assoc (write z) (mark ∷ behind) tail))))
+
+pub comma : IsMark (codes ", ")
+comma = record { mark = 44; behind = 32 ∷ []; is = refl; outside = λ h. omega (arith, h.0) }
+
+-- nothing but the text's end
+pub text_end : IsMark (ended [])
+text_end = record { mark = 256; behind = []; is = refl; outside = λ h. omega (arith, h.1) }
 
 -- the same for any literal that begins with a mark
 module _ {V : Type 0} (Fits : V → Type 0) (write : V → List ℕ) (letters : (v : V) → Fits v → Each InField (write v)) (literal : List ℕ) (m : IsMark literal) where

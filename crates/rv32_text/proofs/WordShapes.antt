@@ -351,14 +351,16 @@ last_example field = record { text = write_field field (pos 0) ++ ended []; hold
 joined_example : (First Second : List ℕ → Type 0) → Example First → Example Second → Example (Joined First Second)
 joined_example First Second a b = record { text = a.text ++ b.text; holds = record { first = a.text; second = b.text; in_first = a.holds; in_second = b.holds; is = refl } }
 
+pub pair_example : (one two : Field) (between after : List ℕ) → Example (Joined (Operand one between) (Operand two after))
+pair_example one two between after =
+    joined_example (Operand one between) (Operand two after)
+    (record { text = write_field one (pos 0) ++ between; holds = operand_example one between }) (record { text = write_field two (pos 0) ++ after; holds = operand_example two after })
+
 register_example : (Rest : List ℕ → Type 0) → Example Rest → Example (RegisterAnd Rest)
 register_example Rest e = joined_example (Operand Fields.Register (codes ", ")) Rest (record { text = write_field Fields.Register (pos 0) ++ codes ", "; holds = operand_example Fields.Register (codes ", ") }) e
 
 memory_example : Example OffsetAndRegister
-memory_example =
-    joined_example (Operand (Fields.Offset Offsets.Short) (codes "(")) (Operand Fields.Register (ended (codes ")")))
-    (record { text = write_field (Fields.Offset Offsets.Short) (pos 0) ++ codes "("; holds = operand_example (Fields.Offset Offsets.Short) (codes "(") })
-    (record { text = write_field Fields.Register (pos 0) ++ ended (codes ")"); holds = operand_example Fields.Register (ended (codes ")")) })
+memory_example = pair_example (Fields.Offset Offsets.Short) Fields.Register (codes "(") (ended (codes ")"))
 
 pub shape_example : (m : Mnemonic) → Example (Shape m)
 shape_example (Mnemonics.Upper op) = register_example (Last Fields.Upper) (last_example Fields.Upper)

@@ -21,8 +21,8 @@ word_digits w =
     (w / 16 / 16 / 16 / 16 / 16 / 16 / 16 % 16) (w / 16 / 16 / 16 / 16 / 16 / 16 % 16) (w / 16 / 16 / 16 / 16 / 16 % 16) (w / 16 / 16 / 16 / 16 % 16) (w / 16 / 16 / 16 % 16) (w / 16 / 16 % 16) (w / 16 % 16) (w % 16)
     (omega arith) (omega arith) (omega arith) (omega arith) (omega arith) (omega arith) (omega arith) (omega arith)
 
-pub upper_digits : (w : ℕ) → w < 2 ^ 32 → byte_text (w / 2 ^ 24) ++ (byte_text (w / 2 ^ 16 % 256) ++ (hex_digit (w / 2 ^ 12 % 16) ∷ [])) ≡ hex_text 5 (w / 2 ^ 12)
+pub upper_digits : (w : ℕ) → w < 2 ^ 32 → byte_text (w / 2 ^ 24) ++ (byte_text (w / 2 ^ 16 % 256) ++ (hex_digit (w / 2 ^ 12 % 16 % 16) ∷ [])) ≡ hex_text 5 (w / 2 ^ 12)
 upper_digits w small =
-    five (w / 2 ^ 24 / 16) (w / 2 ^ 24 % 16) (w / 2 ^ 16 % 256 / 16) (w / 2 ^ 16 % 256 % 16) (w / 2 ^ 12 % 16)
+    five (w / 2 ^ 24 / 16) (w / 2 ^ 24 % 16) (w / 2 ^ 16 % 256 / 16) (w / 2 ^ 16 % 256 % 16) (w / 2 ^ 12 % 16 % 16)
     (w / 2 ^ 12 / 16 / 16 / 16 / 16 % 16) (w / 2 ^ 12 / 16 / 16 / 16 % 16) (w / 2 ^ 12 / 16 / 16 % 16) (w / 2 ^ 12 / 16 % 16) (w / 2 ^ 12 % 16)
-    (omega arith) (omega arith) (omega arith) (omega arith) refl
+    (omega arith) (omega arith) (omega arith) (omega arith) (omega arith)

@@ -1,6 +1,6 @@
 //! Instructions by what follows their mnemonics.
 
-ghost use Rattle.std.specs.Prelude.{◌≡◌, ◌≤◌, ◌<◌, ◌++◌, length, codes, MatchResult, pos, negsuc, ◌≤ℤ◌};
+ghost use Rattle.std.specs.Prelude.{◌≡◌, ◌≤◌, ◌<◌, ◌/◌, ◌%◌, ◌^◌, ◌++◌, length, codes, MatchResult, pos, negsuc, ◌≤ℤ◌};
 ghost use Rattle.rv32_asm.specs.Encoding.{is_shift};
 ghost use Rattle.rv32_text.specs.Languages.{ended, rest, Joined, StopsAt};
 ghost use Rattle.rv32_text.specs.Fields.{Fits, write_field};
@@ -26,6 +26,15 @@ fn immediate(value: i64) -> i32
     ensures { result ≡ value }
 {
     value as i32
+}
+
+/// The immediate whose bits 31 to 12 these are; the others are 0.
+fn upper_immediate(digits: i64) -> u32
+    requires { Fits Field.Upper digits }
+    ensures value { digits ≡ pos (result / 2 ^ 12) }
+    ensures low { result % 2 ^ 12 ≡ 0 }
+{
+    (digits as u32) * 0x1000
 }
 
 /// A register and two operands, with which the text ends.
@@ -57,7 +66,7 @@ pub(crate) fn read_upper(op: UpperOp, text: &[u8], from: usize) -> Result<Instr,
         Err(place) => Err(place),
         Ok((rd, digits)) => {
             let rd = register(rd);
-            let imm = (digits as u32) << 12;
+            let imm = upper_immediate(digits);
             Ok(Instr::Upper { op, rd, imm })
         }
     }

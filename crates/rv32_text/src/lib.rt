@@ -15,3 +15,6 @@ mod write;
 pub use basic_types::NoMemory;
 pub use reader::{TextFault, read};
 pub use write::{WordText, list};
+
+#[cfg(test)]
+mod tests;
