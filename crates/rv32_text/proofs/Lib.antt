@@ -9,6 +9,8 @@ pub mod Literals
 pub mod MnemonicTable
 pub mod OperandReads
 pub mod Steps
+pub mod Telling
+pub mod UniqueWords
 pub mod WordShapes
 pub mod WordTexts
 pub mod Words

@@ -38,7 +38,7 @@ use Rattle.rv32_text.specs.Shapes.{Operand, RegisterAnd, Last, OffsetAndRegister
 
 -- ---- from words to shapes
 
-an_amount : (n : ℕ) → n < 32 → IsShiftAmount (pos n)
+pub an_amount : (n : ℕ) → n < 32 → IsShiftAmount (pos n)
 an_amount n h = (omega (arith, ints), omega (arith, ints))
 
 and_register : (Rest : List ℕ → Type 0) (r : ℕ) (t : List ℕ) → r < 32 → Rest t → RegisterAnd Rest (register r ++ (codes ", " ++ t))

@@ -5,6 +5,7 @@ mod digits;
 mod expect;
 mod fields;
 mod instruction;
+pub mod laws;
 mod mnemonic;
 mod number;
 mod operands;
