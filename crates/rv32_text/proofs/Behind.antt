@@ -41,18 +41,18 @@ module _ {V U : Type 0} (F : V → Type 0) (w : V → List ℕ) (G : U → Type 
     splits = ap (λ (y : List ℕ). p ++ y) h.splits ∙ sym (append_assoc p h.front h.after);
     used_is = length-append p h.front ∙ (ap (λ (n : ℕ). length p + n) h.used_is ∙ sym sum);
     begins =
-      (let i = into h.begins.value h.begins.fits in
-      record {
-        value = to h.begins.value;
-        more = h.begins.more;
-        fits = i.fits;
-        is = i.is ∙ (ap (λ (y : List ℕ). p ++ y) h.begins.is ∙ sym (append_assoc p h.front h.begins.more));
-      });
+        (let i = into h.begins.value h.begins.fits in
+        record {
+          value = to h.begins.value;
+          more = h.begins.more;
+          fits = i.fits;
+          is = i.is ∙ (ap (λ (y : List ℕ). p ++ y) h.begins.is ∙ sym (append_assoc p h.front h.begins.more));
+        });
     longest = λ letter more is can.
-      (let there : x can.value ≡ p ++ ((h.front ++ (letter ∷ [])) ++ can.more) =
+        (let there : x can.value ≡ p ++ ((h.front ++ (letter ∷ [])) ++ can.more) =
         can.is ∙ (ap (λ (y : List ℕ). y ++ can.more) (append_assoc p h.front (letter ∷ [])) ∙ append_assoc p (h.front ++ (letter ∷ [])) can.more) in
-      let b = back can.value ((h.front ++ (letter ∷ [])) ++ can.more) can.fits there
+        let b = back can.value ((h.front ++ (letter ∷ [])) ++ can.more) can.fits there
         (starts_longer s h.front more can.more letter (h.splits ∙ ap (λ (y : List ℕ). h.front ++ y) is)) in
-      h.longest letter more is (record { value = b.value; more = can.more; fits = b.fits; is = b.is }));
+        h.longest letter more is (record { value = b.value; more = can.more; fits = b.fits; is = b.is }));
     value_is = value_behind h.front h.after o h.splits h.value_is;
   }

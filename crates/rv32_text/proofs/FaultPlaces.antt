@@ -47,18 +47,18 @@ module _ (m : Mnemonic) (text : List ℕ) (place : ℕ) (begins : ended text ≡
           word = s.word;
           fits = s.fits;
           is = append_assoc (start_of m) h.front h.more ∙ (ap (λ (x : List ℕ). start_of m ++ x) s.is
-            ∙ (ap (λ (n : Mnemonic). start_of n ++ ended (operands_by (instr s.word) s.word)) (sym s.mnemonic_is) ∙ sym (start_is s.word)));
+              ∙ (ap (λ (n : Mnemonic). start_of n ++ ended (operands_by (instr s.word) s.word)) (sym s.mnemonic_is) ∙ sym (start_is s.word)));
         };
         no_further = λ t u v w e.
-          (let left : t ++ u ≡ start_of (mnemonic_by (instr w.word)) ++ (ended (operands_by (instr w.word) w.word) ++ u) =
+            (let left : t ++ u ≡ start_of (mnemonic_by (instr w.word)) ++ (ended (operands_by (instr w.word) w.word) ++ u) =
             ap (λ (x : List ℕ). x ++ u) (w.is ∙ start_is w.word) ∙ append_assoc (start_of (mnemonic_by (instr w.word))) (ended (operands_by (instr w.word) w.word)) u in
-          let both : start_of (mnemonic_by (instr w.word)) ++ (ended (operands_by (instr w.word) w.word) ++ u) ≡ start_of m ++ (h.front ++ (h.letter ∷ v)) =
+            let both : start_of (mnemonic_by (instr w.word)) ++ (ended (operands_by (instr w.word) w.word) ++ u) ≡ start_of m ++ (h.front ++ (h.letter ∷ v)) =
             sym left ∙ (e ∙ append_assoc (start_of m) h.front (h.letter ∷ v)) in
-          let same : mnemonic_by (instr w.word) ≡ m = start_told (mnemonic_by (instr w.word)) m (ended (operands_by (instr w.word) w.word) ++ u) (h.front ++ (h.letter ∷ v)) both in
-          h.no_further (ended (operands_by (instr w.word) w.word)) u v
+            let same : mnemonic_by (instr w.word) ≡ m = start_told (mnemonic_by (instr w.word)) m (ended (operands_by (instr w.word) w.word) ++ u) (h.front ++ (h.letter ∷ v)) both in
+            h.no_further (ended (operands_by (instr w.word) w.word)) u v
             (subst (λ (n : Mnemonic). Shape n (ended (operands_by (instr w.word) w.word))) same (word_shape w.word w.fits))
             (append_cancel_left (start_of m) (ended (operands_by (instr w.word) w.word) ++ u) (h.front ++ (h.letter ∷ v))
-              (ap (λ (n : Mnemonic). start_of n ++ (ended (operands_by (instr w.word) w.word) ++ u)) (sym same) ∙ both)));
+            (ap (λ (n : Mnemonic). start_of n ++ (ended (operands_by (instr w.word) w.word) ++ u)) (sym same) ∙ both)));
       }
 
 -- ---- a text with no start
@@ -85,21 +85,21 @@ stops_before_start text place h =
         word = s.word;
         fits = s.fits;
         is = sym (append_assoc d.front (d.wanted ∷ d.missing) e.text) ∙ (ap (λ (x : List ℕ). x ++ e.text) (sym d.wanted_is) ∙ (ap (λ (x : List ℕ). start_of h.longest.mnemonic ++ x) s.is
-          ∙ (ap (λ (n : Mnemonic). start_of n ++ ended (operands_by (instr s.word) s.word)) (sym s.mnemonic_is) ∙ sym (start_is s.word))));
+            ∙ (ap (λ (n : Mnemonic). start_of n ++ ended (operands_by (instr s.word) s.word)) (sym s.mnemonic_is) ∙ sym (start_is s.word))));
       };
       no_further = λ t u v w same.
-        (let p = h.each (mnemonic_by (instr w.word)) in
-        let q = p.differs in
-        let written : t ++ u ≡ q.front ++ (q.wanted ∷ (q.missing ++ (ended (operands_by (instr w.word) w.word) ++ u))) =
+          (let p = h.each (mnemonic_by (instr w.word)) in
+          let q = p.differs in
+          let written : t ++ u ≡ q.front ++ (q.wanted ∷ (q.missing ++ (ended (operands_by (instr w.word) w.word) ++ u))) =
           ap (λ (x : List ℕ). x ++ u) (w.is ∙ start_is w.word)
           ∙ (append_assoc (start_of (mnemonic_by (instr w.word))) (ended (operands_by (instr w.word) w.word)) u
           ∙ (ap (λ (x : List ℕ). x ++ (ended (operands_by (instr w.word) w.word) ++ u)) q.wanted_is ∙ append_assoc q.front (q.wanted ∷ q.missing) (ended (operands_by (instr w.word) w.word) ++ u))) in
-        let one : get_or (t ++ u) p.shared 0 ≡ q.wanted =
+          let one : get_or (t ++ u) p.shared 0 ≡ q.wanted =
           ap (λ (x : List ℕ). get_or x p.shared 0) written ∙ get_or_at q.front q.wanted (q.missing ++ (ended (operands_by (instr w.word) w.word) ++ u)) 0 p.shared q.place_is in
-        let two : get_or (d.front ++ (d.letter ∷ v)) p.shared 0 ≡ q.letter =
+          let two : get_or (d.front ++ (d.letter ∷ v)) p.shared 0 ≡ q.letter =
           letters_agree d.front d.letter v d.after p.shared (omega (arith, p.bound, d.place_is))
           ∙ (ap (λ (x : List ℕ). get_or x p.shared 0) (sym d.letter_is ∙ q.letter_is) ∙ get_or_at q.front q.letter q.after 0 p.shared q.place_is) in
-        q.differ (sym one ∙ (ap (λ (x : List ℕ). get_or x p.shared 0) same ∙ two)));
+          q.differ (sym one ∙ (ap (λ (x : List ℕ). get_or x p.shared 0) same ∙ two)));
     }
 
 -- ---- the place
@@ -142,8 +142,8 @@ module _ (text : List ℕ) (place : ℕ) (bytes : (i : ℕ) → get_or text i 0 
   longer_front n inside more x is =
       let whole : take n text ≡ take n (h.front ++ (h.letter ∷ h.after)) = sym (take-append-le n text (256 ∷ []) inside) ∙ ap (λ (y : List ℕ). take n y) h.splits in
       let part : take (suc place) text ≡ h.front ++ (h.letter ∷ []) =
-        sym (take-append-le (suc place) text (256 ∷ []) (omega arith)) ∙ (ap (λ (y : List ℕ). take (suc place) y) (h.splits ∙ sym (append_assoc h.front (h.letter ∷ []) h.after))
-        ∙ take_at (h.front ++ (h.letter ∷ [])) h.after (suc place) (length-append h.front (h.letter ∷ []) ∙ (omega (arith, h.place_is)))) in
+      sym (take-append-le (suc place) text (256 ∷ []) (omega arith)) ∙ (ap (λ (y : List ℕ). take (suc place) y) (h.splits ∙ sym (append_assoc h.front (h.letter ∷ []) h.after))
+      ∙ take_at (h.front ++ (h.letter ∷ [])) h.after (suc place) (length-append h.front (h.letter ∷ []) ∙ (omega (arith, h.place_is)))) in
       let begins : take (suc place) x ≡ h.front ++ (h.letter ∷ []) = ap (λ (y : List ℕ). take (suc place) y) (sym is) ∙ (take-take (suc place) n text (omega arith) ∙ part) in
       sym (take-append-drop (suc place) x) ∙ (ap (λ (y : List ℕ). y ++ drop (suc place) x) begins ∙ append_assoc h.front (h.letter ∷ []) (drop (suc place) x))
 

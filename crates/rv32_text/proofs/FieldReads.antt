@@ -152,7 +152,7 @@ pub register_reads : (text : List ℕ) (used : ℕ) (o : Option ℕ) → BeginsB
     → Reads (Fits Fields.Register) (write_field Fields.Register) text (1 + used) (option_map (λ n. pos n) o)
 register_reads text used o b h =
     let tail_reads : Reads (InRange below_32) (λ n. decimal n) b.tail used o =
-      subst (λ (x : List ℕ). Reads (InRange below_32) (λ n. decimal n) (drop 1 x) used o) b.is h in
+    subst (λ (x : List ℕ). Reads (InRange below_32) (λ n. decimal n) (drop 1 x) used o) b.is h in
     subst (λ (x : List ℕ). Reads (Fits Fields.Register) (write_field Fields.Register) x (1 + used) (option_map (λ n. pos n) o)) (sym b.is)
     (reads_behind (InRange below_32) (λ n. decimal n) (Fits Fields.Register) (write_field Fields.Register) (120 ∷ []) (λ n. pos n) b.tail
     register_into (register_back b.tail) (1 + used) used o refl tail_reads)
@@ -165,8 +165,8 @@ no_register text never = record {
   used_is = refl;
   begins = record { value = pos 0; more = 120 ∷ decimal 0; fits = (omega (arith, ints), omega (arith, ints)); is = refl };
   longest = λ letter more is can.
-    (let same : 120 ≡ letter = cons_head 120 letter (signed_decimal can.value) can.more can.is in
-    never (record { tail = more; is = is ∙ ap (λ (x : ℕ). x ∷ more) (sym same) }));
+      (let same : 120 ≡ letter = cons_head 120 letter (signed_decimal can.value) can.more can.is in
+      never (record { tail = more; is = is ∙ ap (λ (x : ℕ). x ∷ more) (sym same) }));
   value_is = λ z fits e. absurd (cc);
 }
 
@@ -222,7 +222,7 @@ module _ (o : Offset) where
       → Reads (Fits (Fields.Offset o)) (write_field (Fields.Offset o)) text (1 + used) (option_map minus v)
   negative_reads text used v b h =
       let tail_reads : Reads (InRange (negative_range o)) (λ n. decimal n) b.tail used v =
-        subst (λ (x : List ℕ). Reads (InRange (negative_range o)) (λ n. decimal n) (drop 1 x) used v) b.is h in
+      subst (λ (x : List ℕ). Reads (InRange (negative_range o)) (λ n. decimal n) (drop 1 x) used v) b.is h in
       subst (λ (x : List ℕ). Reads (Fits (Fields.Offset o)) (write_field (Fields.Offset o)) x (1 + used) (option_map minus v)) (sym b.is)
       (reads_behind (InRange (negative_range o)) (λ n. decimal n) (Fits (Fields.Offset o)) (write_field (Fields.Offset o)) (45 ∷ []) minus b.tail
       negative_into (negative_back b.tail) (1 + used) used v refl tail_reads)

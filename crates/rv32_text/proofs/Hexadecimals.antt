@@ -206,8 +206,8 @@ module _ (digits : Digits) (used n letter : ℕ) where
       let count : digit_count digits ≡ used + 1 + (digit_count digits - (used + 1)) = omega arith in
       let below : m < 16 ^ (used + 1 + (digit_count digits - (used + 1))) = (let h : m < 16 ^ digit_count digits = small_row digits m fits in subst (λ (x : ℕ). m < 16 ^ x) count h) in
       let same : high (digit_count digits - (used + 1)) m ≡ long =
-        high_told (digit_count digits - (used + 1)) (used + 1) m long more below small
-        (ap (λ (x : ℕ). hex_text x m) (sym count) ∙ (e ∙ ap (λ (x : List ℕ). x ++ more) (sym is))) in
+      high_told (digit_count digits - (used + 1)) (used + 1) m long more below small
+      (ap (λ (x : ℕ). hex_text x m) (sym count) ∙ (e ∙ ap (λ (x : List ℕ). x ++ more) (sym is))) in
       never (small, (let P : ℕ → Type 0 = λ x. HasDigits digits (completed digits (digit_count digits - (used + 1)) x) in subst P same (completes_high digits (digit_count digits - (used + 1)) m fits)))
 
 -- a row with all its digits, and one that lacks some

@@ -54,9 +54,9 @@ stops_second First Second a s b k itself some is h = record {
   place_is = length-append a h.front ∙ ap (λ (n : ℕ). length a + n) h.place_is;
   reached = record { first = a; second = h.front ++ h.more; in_first = some; in_second = h.reached; is = append_assoc a h.front h.more };
   no_further = λ t u v j e.
-    h.no_further j.second u v j.in_second
-    (itself j.first a (j.second ++ u) (h.front ++ (h.letter ∷ v)) j.in_first some
-    (sym (append_assoc j.first j.second u) ∙ (ap (λ (x : List ℕ). x ++ u) (sym j.is) ∙ (e ∙ append_assoc a h.front (h.letter ∷ v)))));
+      h.no_further j.second u v j.in_second
+      (itself j.first a (j.second ++ u) (h.front ++ (h.letter ∷ v)) j.in_first some
+      (sym (append_assoc j.first j.second u) ∙ (ap (λ (x : List ℕ). x ++ u) (sym j.is) ∙ (e ∙ append_assoc a h.front (h.letter ∷ v)))));
 }
 
 -- sets with the same texts
@@ -84,8 +84,8 @@ module _ {V : Type 0} (Fits : V → Type 0) (write : V → List ℕ) (text front
     used_is = ap length so_far ∙ length-take-le used text (omega arith);
     begins = begins;
     longest = λ next more is can.
-      (let same : next ≡ letter = cons_head next (get_or text used 0) more (drop (used + 1) text) (sym is ∙ drop_more text used 0 inside) ∙ sym letter_is in
-      never can.value can.more can.fits (can.is ∙ ap (λ (x : ℕ). (front ++ (x ∷ [])) ++ can.more) same));
+        (let same : next ≡ letter = cons_head next (get_or text used 0) more (drop (used + 1) text) (sym is ∙ drop_more text used 0 inside) ∙ sym letter_is in
+        never can.value can.more can.fits (can.is ∙ ap (λ (x : ℕ). (front ++ (x ∷ [])) ++ can.more) same));
     value_is = value_is;
   }
 

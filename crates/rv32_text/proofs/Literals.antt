@@ -19,8 +19,8 @@ module _ (literal text : List ℕ) (place : ℕ) (inside : place < length litera
     after = ended (drop (place + 1) text);
     wanted_is = cut literal place inside;
     letter_is = ap (λ (x : List ℕ). ended x) (cut text place there)
-      ∙ (append_assoc (take place text) (get_or text place 0 ∷ drop (place + 1) text) (256 ∷ [])
-      ∙ ap (λ (x : List ℕ). x ++ (get_or text place 0 ∷ ended (drop (place + 1) text))) shared);
+        ∙ (append_assoc (take place text) (get_or text place 0 ∷ drop (place + 1) text) (256 ∷ [])
+        ∙ ap (λ (x : List ℕ). x ++ (get_or text place 0 ∷ ended (drop (place + 1) text))) shared);
     differ = differ;
     place_is = length-take-le place literal (omega arith);
   }
@@ -64,8 +64,8 @@ stops_before_end text from inside small = record {
     place_is = refl;
     reached = refl;
     no_further = λ t u v is e.
-      (let there : 256 ∷ u ≡ get_or text from 0 ∷ v = ap (λ (x : List ℕ). x ++ u) (sym is) ∙ e in
-      let same : 256 ≡ get_or text from 0 = cons_head 256 (get_or text from 0) u v there in
-      omega arith);
+        (let there : 256 ∷ u ≡ get_or text from 0 ∷ v = ap (λ (x : List ℕ). x ++ u) (sym is) ∙ e in
+        let same : 256 ≡ get_or text from 0 = cons_head 256 (get_or text from 0) u v there in
+        omega arith);
   };
 }

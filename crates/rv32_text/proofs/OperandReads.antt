@@ -49,10 +49,10 @@ module _ {V : Type 0} (Fits : V → Type 0) (write : V → List ℕ) (letters : 
     tail = [];
     is = refl;
     none = λ v more fits e.
-      (let all : Each InField (write v) = letters v fits in
-      let there : Each InField (front ++ (256 ∷ more)) = rw e at all in
-      let last = (each_back InField front (256 ∷ more) there).0 in
-      omega (arith, last.1));
+        (let all : Each InField (write v) = letters v fits in
+        let there : Each InField (front ++ (256 ∷ more)) = rw e at all in
+        let last = (each_back InField front (256 ∷ more) there).0 in
+        omega (arith, last.1));
   }
   next_by front after (a ∷ others) same longest = record {
     letter = a;
@@ -100,12 +100,12 @@ module _ {V : Type 0} (Fits : V → Type 0) (write : V → List ℕ) (letters : 
             is = sym (append_assoc h.front h.begins.more (mark ∷ behind)) ∙ ap (λ (x : List ℕ). x ++ (mark ∷ behind)) (sym h.begins.is);
           };
           no_further = λ t u v m e.
-            (let there : write m.value ++ (mark ∷ (behind ++ u)) ≡ h.front ++ (n.letter ∷ v) =
+              (let there : write m.value ++ (mark ∷ (behind ++ u)) ≡ h.front ++ (n.letter ∷ v) =
               sym (append_assoc (write m.value) (mark ∷ behind) u) ∙ (ap (λ (x : List ℕ). x ++ u) (sym m.is) ∙ e) in
-            elim (meet (write m.value) h.front mark n.letter (behind ++ u) v (front_letters h.front h.begins) outside there) [
-              | inl same ↦ h.value_is m.value m.fits same
-              | inr longer ↦ n.none m.value longer.more m.fits longer.is
-            ]);
+              elim (meet (write m.value) h.front mark n.letter (behind ++ u) v (front_letters h.front h.begins) outside there) [
+                | inl same ↦ h.value_is m.value m.fits same
+                | inr longer ↦ n.none m.value longer.more m.fits longer.is
+              ]);
         }
 
     -- a value with another literal behind it stops where the literals part
@@ -127,16 +127,16 @@ module _ {V : Type 0} (Fits : V → Type 0) (write : V → List ℕ) (letters : 
             is = append_assoc h.front d.front (d.wanted ∷ d.missing) ∙ (ap (λ (x : List ℕ). h.front ++ x) (sym d.wanted_is) ∙ ap (λ (x : List ℕ). x ++ (mark ∷ behind)) (sym h.value_is.1));
           };
           no_further = λ t u v m e.
-            (let head = same_head d.front d.letter n.letter n.tail d.after v (sym n.is ∙ tail_is) in
-            let there : write m.value ++ (mark ∷ (behind ++ u)) ≡ h.front ++ (d.front ++ (d.letter ∷ v)) =
+              (let head = same_head d.front d.letter n.letter n.tail d.after v (sym n.is ∙ tail_is) in
+              let there : write m.value ++ (mark ∷ (behind ++ u)) ≡ h.front ++ (d.front ++ (d.letter ∷ v)) =
               sym (append_assoc (write m.value) (mark ∷ behind) u) ∙ (ap (λ (x : List ℕ). x ++ u) (sym m.is) ∙ (e ∙ append_assoc h.front d.front (d.letter ∷ v))) in
-            elim (meet (write m.value) h.front mark n.letter (behind ++ u) head.tail (front_letters h.front h.begins) outside (there ∙ ap (λ (x : List ℕ). h.front ++ x) head.is)) [
-              | inl same ↦ d.differ (cons_head d.wanted d.letter (d.missing ++ u) v
-                  (append_cancel_left d.front (d.wanted ∷ (d.missing ++ u)) (d.letter ∷ v)
-                  (sym (append_assoc d.front (d.wanted ∷ d.missing) u) ∙ (ap (λ (x : List ℕ). x ++ u) (sym d.wanted_is)
-                  ∙ append_cancel_left h.front ((mark ∷ behind) ++ u) (d.front ++ (d.letter ∷ v)) (ap (λ (x : List ℕ). x ++ (mark ∷ (behind ++ u))) (sym same) ∙ there)))))
-              | inr longer ↦ n.none m.value longer.more m.fits longer.is
-            ]);
+              elim (meet (write m.value) h.front mark n.letter (behind ++ u) head.tail (front_letters h.front h.begins) outside (there ∙ ap (λ (x : List ℕ). h.front ++ x) head.is)) [
+                | inl same ↦ d.differ (cons_head d.wanted d.letter (d.missing ++ u) v
+                    (append_cancel_left d.front (d.wanted ∷ (d.missing ++ u)) (d.letter ∷ v)
+                    (sym (append_assoc d.front (d.wanted ∷ d.missing) u) ∙ (ap (λ (x : List ℕ). x ++ u) (sym d.wanted_is)
+                    ∙ append_cancel_left h.front ((mark ∷ behind) ++ u) (d.front ++ (d.letter ∷ v)) (ap (λ (x : List ℕ). x ++ (mark ∷ (behind ++ u))) (sym same) ∙ there)))))
+                | inr longer ↦ n.none m.value longer.more m.fits longer.is
+              ]);
         }
 
     pub takes : (s tail : List ℕ) (used : ℕ) (z : V) → Reads Fits write s used (Some z) → ended (drop used s) ≡ (mark ∷ behind) ++ tail
@@ -168,8 +168,8 @@ module _ {V : Type 0} (Fits : V → Type 0) (write : V → List ℕ) (letters : 
       → StopsAt (OneOf Fits write literal) text from (from + used + shared)
   stops_at_literal text from used shared z h d =
       let there : Differs (m.mark ∷ m.behind) (ended (drop used (drop from text))) shared =
-        subst (λ (x : List ℕ). Differs x (ended (drop used (drop from text))) shared) m.is
-        (subst (λ (x : List ℕ). Differs literal (ended x) shared) (sym (drop-drop used from text)) d) in
+      subst (λ (x : List ℕ). Differs x (ended (drop used (drop from text))) shared) m.is
+      (subst (λ (x : List ℕ). Differs literal (ended x) shared) (sym (drop-drop used from text)) d) in
       record {
         count = used + shared;
         place_is = omega arith;
@@ -180,7 +180,7 @@ module _ {V : Type 0} (Fits : V → Type 0) (write : V → List ℕ) (letters : 
       → rest text from ≡ (write z ++ literal) ++ tail
   takes_literal text tail from used z h e =
       let there : ended (drop used (drop from text)) ≡ (m.mark ∷ m.behind) ++ tail =
-        ap (λ (x : List ℕ). ended x) (drop-drop used from text) ∙ (e ∙ ap (λ (x : List ℕ). x ++ tail) m.is) in
+      ap (λ (x : List ℕ). ended x) (drop-drop used from text) ∙ (e ∙ ap (λ (x : List ℕ). x ++ tail) m.is) in
       takes Fits write letters m.mark m.behind m.outside (drop from text) tail used z h there ∙ ap (λ (x : List ℕ). (write z ++ x) ++ tail) (sym m.is)
 
   pub takes_operand : (text : List ℕ) (from used : ℕ) (z : V) → Reads Fits write (drop from text) used (Some z)

@@ -70,7 +70,7 @@ memory_cut : (z y : ℤ) (r s : ℕ) → IsShortOffset z → IsShortOffset y →
     → signed_decimal z ++ (codes "(" ++ (register r ++ codes ")")) ≡ signed_decimal y ++ (codes "(" ++ (register s ++ codes ")")) → SamePlace z y r s
 memory_cut z y r s hz hy p q e =
     let h = cut_same 40 (signed_decimal z) (signed_decimal y) (register r ++ codes ")") (register s ++ codes ")") (λ i. omega (arith, i.0))
-      (field_letters (Fields.Offset Offsets.Short) z hz) (field_letters (Fields.Offset Offsets.Short) y hy) e in
+    (field_letters (Fields.Offset Offsets.Short) z hz) (field_letters (Fields.Offset Offsets.Short) y hy) e in
     record { offset = offset_told Offsets.Short z y hz hy h.front; number = register_told r s p q (append_cancel_right (register r) (register s) (codes ")") h.back) }
 
 instruction_told : (i j : Instr) → IsInRange i → IsInRange j → mnemonic_of i ≡ mnemonic_of j → operands i 0 ≡ operands j 0 → i ≡ j

@@ -43,7 +43,6 @@ module _ (w : ℕ) (small : w < 2 ^ 32) where
 
   is_s : w ≡ s_type (opcode w) (funct3 w) (rs1 w) (rs2 w) (word_of (imm_s w))
   is_s =
-
       let back : field 11 0 (word_of (imm_s w)) ≡ field 31 25 w * 2 ^ 5 + field 11 7 w = short_back (field 31 25 w * 2 ^ 5 + field 11 7 w) (omega arith) in
       let low : field 4 0 (word_of (imm_s w)) ≡ field 11 7 w = omega (arith, back) in
       let high : field 11 5 (word_of (imm_s w)) ≡ field 31 25 w = omega (arith, back) in
@@ -55,7 +54,7 @@ module _ (w : ℕ) (small : w < 2 ^ 32) where
   is_b : w ≡ b_type (opcode w) (funct3 w) (rs1 w) (rs2 w) (word_of (imm_b w))
   is_b =
       let back : word_of (imm_b w) % 2 ^ 13 ≡ field 31 31 w * 2 ^ 12 + field 7 7 w * 2 ^ 11 + field 30 25 w * 2 ^ 5 + field 11 8 w * 2 =
-        branch_back (field 31 31 w * 2 ^ 12 + field 7 7 w * 2 ^ 11 + field 30 25 w * 2 ^ 5 + field 11 8 w * 2) (omega arith) in
+      branch_back (field 31 31 w * 2 ^ 12 + field 7 7 w * 2 ^ 11 + field 30 25 w * 2 ^ 5 + field 11 8 w * 2) (omega arith) in
       let e12 : field 12 12 (word_of (imm_b w)) ≡ field 31 31 w = omega (arith, back) in
       let e11 : field 11 11 (word_of (imm_b w)) ≡ field 7 7 w = omega (arith, back) in
       let e5 : field 10 5 (word_of (imm_b w)) ≡ field 30 25 w = omega (arith, back) in
@@ -65,7 +64,7 @@ module _ (w : ℕ) (small : w < 2 ^ 32) where
   is_j : w ≡ j_type (opcode w) (rd w) (word_of (imm_j w))
   is_j =
       let back : word_of (imm_j w) % 2 ^ 21 ≡ field 31 31 w * 2 ^ 20 + field 19 12 w * 2 ^ 12 + field 20 20 w * 2 ^ 11 + field 30 21 w * 2 =
-        jump_back (field 31 31 w * 2 ^ 20 + field 19 12 w * 2 ^ 12 + field 20 20 w * 2 ^ 11 + field 30 21 w * 2) (omega arith) in
+      jump_back (field 31 31 w * 2 ^ 20 + field 19 12 w * 2 ^ 12 + field 20 20 w * 2 ^ 11 + field 30 21 w * 2) (omega arith) in
       let e20 : field 20 20 (word_of (imm_j w)) ≡ field 31 31 w = omega (arith, back) in
       let e12 : field 19 12 (word_of (imm_j w)) ≡ field 19 12 w = omega (arith, back) in
       let e11 : field 11 11 (word_of (imm_j w)) ≡ field 20 20 w = omega (arith, back) in
@@ -141,7 +140,7 @@ shift_gives f g =
     (λ t. gives_if (ShiftIs f g) (g == 0) _ None (λ u. gives_some (ShiftIs f g) ImmOps.Sll (sym (eqb-true f 1 t), (let none : g ≡ 0 = eqb-true g 0 u in omega arith))) (gives_none (ShiftIs f g)))
     (gives_if (ShiftIs f g) (f == 5) _ None
     (λ t. gives_if (ShiftIs f g) (g == 0) _ _ (λ u. gives_some (ShiftIs f g) ImmOps.Srl (sym (eqb-true f 5 t), (let none : g ≡ 0 = eqb-true g 0 u in omega arith)))
-      (gives_if (ShiftIs f g) (g == 0x20) _ None (λ u. gives_some (ShiftIs f g) ImmOps.Sra (sym (eqb-true f 5 t), (let kind : g ≡ 0x20 = eqb-true g 0x20 u in omega arith))) (gives_none (ShiftIs f g))))
+    (gives_if (ShiftIs f g) (g == 0x20) _ None (λ u. gives_some (ShiftIs f g) ImmOps.Sra (sym (eqb-true f 5 t), (let kind : g ≡ 0x20 = eqb-true g 0x20 u in omega arith))) (gives_none (ShiftIs f g))))
     (gives_none (ShiftIs f g)))
 
 abbrev OpIs : ℕ → ℕ → RegOp → Type 0
@@ -152,28 +151,28 @@ op_gives f g =
     let P : RegOp → Type 0 = OpIs f g in
     gives_if P (g == 0) _ _
     (λ k. let e : 0 ≡ g = sym (eqb-true g 0 k) in
-      gives_if P (f == 0) _ _ (λ t. gives_some P RegOps.Add (sym (eqb-true f 0 t), e))
-      (gives_if P (f == 1) _ _ (λ t. gives_some P RegOps.Sll (sym (eqb-true f 1 t), e))
-      (gives_if P (f == 2) _ _ (λ t. gives_some P RegOps.Slt (sym (eqb-true f 2 t), e))
-      (gives_if P (f == 3) _ _ (λ t. gives_some P RegOps.Sltu (sym (eqb-true f 3 t), e))
-      (gives_if P (f == 4) _ _ (λ t. gives_some P RegOps.Xor (sym (eqb-true f 4 t), e))
-      (gives_if P (f == 5) _ _ (λ t. gives_some P RegOps.Srl (sym (eqb-true f 5 t), e))
-      (gives_if P (f == 6) _ _ (λ t. gives_some P RegOps.Or (sym (eqb-true f 6 t), e))
-      (gives_if P (f == 7) _ _ (λ t. gives_some P RegOps.And (sym (eqb-true f 7 t), e)) (gives_none P)))))))))
+    gives_if P (f == 0) _ _ (λ t. gives_some P RegOps.Add (sym (eqb-true f 0 t), e))
+    (gives_if P (f == 1) _ _ (λ t. gives_some P RegOps.Sll (sym (eqb-true f 1 t), e))
+    (gives_if P (f == 2) _ _ (λ t. gives_some P RegOps.Slt (sym (eqb-true f 2 t), e))
+    (gives_if P (f == 3) _ _ (λ t. gives_some P RegOps.Sltu (sym (eqb-true f 3 t), e))
+    (gives_if P (f == 4) _ _ (λ t. gives_some P RegOps.Xor (sym (eqb-true f 4 t), e))
+    (gives_if P (f == 5) _ _ (λ t. gives_some P RegOps.Srl (sym (eqb-true f 5 t), e))
+    (gives_if P (f == 6) _ _ (λ t. gives_some P RegOps.Or (sym (eqb-true f 6 t), e))
+    (gives_if P (f == 7) _ _ (λ t. gives_some P RegOps.And (sym (eqb-true f 7 t), e)) (gives_none P)))))))))
     (gives_if P (g == 0x20) _ _
     (λ k. let e : 0x20 ≡ g = sym (eqb-true g 0x20 k) in
-      gives_if P (f == 0) _ _ (λ t. gives_some P RegOps.Sub (sym (eqb-true f 0 t), e))
-      (gives_if P (f == 5) _ _ (λ t. gives_some P RegOps.Sra (sym (eqb-true f 5 t), e)) (gives_none P)))
+    gives_if P (f == 0) _ _ (λ t. gives_some P RegOps.Sub (sym (eqb-true f 0 t), e))
+    (gives_if P (f == 5) _ _ (λ t. gives_some P RegOps.Sra (sym (eqb-true f 5 t), e)) (gives_none P)))
     (gives_if P (g == 1) _ None
     (λ k. let e : 1 ≡ g = sym (eqb-true g 1 k) in
-      gives_if P (f == 0) _ _ (λ t. gives_some P RegOps.Mul (sym (eqb-true f 0 t), e))
-      (gives_if P (f == 1) _ _ (λ t. gives_some P RegOps.Mulh (sym (eqb-true f 1 t), e))
-      (gives_if P (f == 2) _ _ (λ t. gives_some P RegOps.Mulhsu (sym (eqb-true f 2 t), e))
-      (gives_if P (f == 3) _ _ (λ t. gives_some P RegOps.Mulhu (sym (eqb-true f 3 t), e))
-      (gives_if P (f == 4) _ _ (λ t. gives_some P RegOps.Div (sym (eqb-true f 4 t), e))
-      (gives_if P (f == 5) _ _ (λ t. gives_some P RegOps.Divu (sym (eqb-true f 5 t), e))
-      (gives_if P (f == 6) _ _ (λ t. gives_some P RegOps.Rem (sym (eqb-true f 6 t), e))
-      (gives_if P (f == 7) _ _ (λ t. gives_some P RegOps.Remu (sym (eqb-true f 7 t), e)) (gives_none P)))))))))
+    gives_if P (f == 0) _ _ (λ t. gives_some P RegOps.Mul (sym (eqb-true f 0 t), e))
+    (gives_if P (f == 1) _ _ (λ t. gives_some P RegOps.Mulh (sym (eqb-true f 1 t), e))
+    (gives_if P (f == 2) _ _ (λ t. gives_some P RegOps.Mulhsu (sym (eqb-true f 2 t), e))
+    (gives_if P (f == 3) _ _ (λ t. gives_some P RegOps.Mulhu (sym (eqb-true f 3 t), e))
+    (gives_if P (f == 4) _ _ (λ t. gives_some P RegOps.Div (sym (eqb-true f 4 t), e))
+    (gives_if P (f == 5) _ _ (λ t. gives_some P RegOps.Divu (sym (eqb-true f 5 t), e))
+    (gives_if P (f == 6) _ _ (λ t. gives_some P RegOps.Rem (sym (eqb-true f 6 t), e))
+    (gives_if P (f == 7) _ _ (λ t. gives_some P RegOps.Remu (sym (eqb-true f 7 t), e)) (gives_none P)))))))))
     (gives_none P)))
 
 -- ---- rows
@@ -197,7 +196,7 @@ module _ (w : ℕ) (small : w < 2 ^ 32) where
       (gives_if (Encodes w) (funct3 w == 5) _ _ (λ t. shift_encodes eo)
       (gives_map (ImmIs (funct3 w)) (Encodes w) (λ o. OpImm o (rd w) (rs1 w) (imm_i w)) (imm_op_of (funct3 w)) (imm_gives (funct3 w))
       (λ o h other. i_form 0x13 (imm_op_code o) (word_of (imm_i w) + shift_kind o) eo h.0
-        (let none : shift_kind o ≡ 0 = h.1 in let back : field 11 0 (word_of (imm_i w)) ≡ field 31 20 w = short_back (field 31 20 w) (omega arith) in omega (arith, none, back)))))
+      (let none : shift_kind o ≡ 0 = h.1 in let back : field 11 0 (word_of (imm_i w)) ≡ field 31 20 w = short_back (field 31 20 w) (omega arith) in omega (arith, none, back)))))
 
   row_encodes : (o : ℕ) → opcode w ≡ o → Gives (Encodes w) (row_of o w)
   row_encodes o eo =
@@ -206,19 +205,19 @@ module _ (w : ℕ) (small : w < 2 ^ 32) where
       (gives_if (Encodes w) (o == 0x17) _ _ (λ t. gives_some (Encodes w) (Upper Auipc (rd w) (imm_u w)) (λ other. is_u w small ∙ ap (λ x. u_type x (rd w) (imm_u w)) (code 0x17 t)))
       (gives_if (Encodes w) (o == 0x6F) _ _ (λ t. gives_some (Encodes w) (Jal (rd w) (imm_j w)) (λ other. is_j w small ∙ ap (λ x. j_type x (rd w) (word_of (imm_j w))) (code 0x6F t)))
       (gives_if (Encodes w) (o == 0x67) _ _ (λ t. gives_if (Encodes w) (funct3 w == 0) _ None
-        (λ u. gives_some (Encodes w) (Jalr (rd w) (rs1 w) (imm_i w)) (λ other. is_i w small ∙ (ap (λ x. i_type x (funct3 w) (rd w) (rs1 w) (word_of (imm_i w))) (code 0x67 t) ∙ ap (λ x. i_type 0x67 x (rd w) (rs1 w) (word_of (imm_i w))) (eqb-true (funct3 w) 0 u)))) (gives_none (Encodes w)))
+      (λ u. gives_some (Encodes w) (Jalr (rd w) (rs1 w) (imm_i w)) (λ other. is_i w small ∙ (ap (λ x. i_type x (funct3 w) (rd w) (rs1 w) (word_of (imm_i w))) (code 0x67 t) ∙ ap (λ x. i_type 0x67 x (rd w) (rs1 w) (word_of (imm_i w))) (eqb-true (funct3 w) 0 u)))) (gives_none (Encodes w)))
       (gives_if (Encodes w) (o == 0x63) _ _ (λ t. gives_map (λ c. cond_code c ≡ funct3 w) (Encodes w) (λ c. Branch c (rs1 w) (rs2 w) (imm_b w)) (cond_of (funct3 w)) (cond_gives (funct3 w))
-        (λ c h other. is_b w small ∙ (ap (λ x. b_type x (funct3 w) (rs1 w) (rs2 w) (word_of (imm_b w))) (code 0x63 t) ∙ ap (λ x. b_type 0x63 x (rs1 w) (rs2 w) (word_of (imm_b w))) (sym h))))
+      (λ c h other. is_b w small ∙ (ap (λ x. b_type x (funct3 w) (rs1 w) (rs2 w) (word_of (imm_b w))) (code 0x63 t) ∙ ap (λ x. b_type 0x63 x (rs1 w) (rs2 w) (word_of (imm_b w))) (sym h))))
       (gives_if (Encodes w) (o == 0x03) _ _ (λ t. gives_map (λ x. load_code x ≡ funct3 w) (Encodes w) (λ x. Load x (rd w) (rs1 w) (imm_i w)) (load_width_of (funct3 w)) (load_gives (funct3 w))
-        (λ c h other. is_i w small ∙ (ap (λ x. i_type x (funct3 w) (rd w) (rs1 w) (word_of (imm_i w))) (code 0x03 t) ∙ ap (λ x. i_type 0x03 x (rd w) (rs1 w) (word_of (imm_i w))) (sym h))))
+      (λ c h other. is_i w small ∙ (ap (λ x. i_type x (funct3 w) (rd w) (rs1 w) (word_of (imm_i w))) (code 0x03 t) ∙ ap (λ x. i_type 0x03 x (rd w) (rs1 w) (word_of (imm_i w))) (sym h))))
       (gives_if (Encodes w) (o == 0x23) _ _ (λ t. gives_map (λ x. store_code x ≡ funct3 w) (Encodes w) (λ x. Store x (rs1 w) (rs2 w) (imm_s w)) (store_width_of (funct3 w)) (store_gives (funct3 w))
-        (λ c h other. is_s w small ∙ (ap (λ x. s_type x (funct3 w) (rs1 w) (rs2 w) (word_of (imm_s w))) (code 0x23 t) ∙ ap (λ x. s_type 0x23 x (rs1 w) (rs2 w) (word_of (imm_s w))) (sym h))))
+      (λ c h other. is_s w small ∙ (ap (λ x. s_type x (funct3 w) (rs1 w) (rs2 w) (word_of (imm_s w))) (code 0x23 t) ∙ ap (λ x. s_type 0x23 x (rs1 w) (rs2 w) (word_of (imm_s w))) (sym h))))
       (gives_if (Encodes w) (o == 0x13) _ _ (λ t. imm_encodes (code 0x13 t))
       (gives_if (Encodes w) (o == 0x33) _ _ (λ t. gives_map (OpIs (funct3 w) (funct7 w)) (Encodes w) (λ x. Op x (rd w) (rs1 w) (rs2 w)) (reg_op_of (funct3 w) (funct7 w)) (op_gives (funct3 w) (funct7 w))
-        (λ c h other. is_r w small ∙ (ap (λ x. r_type x (funct3 w) (rd w) (rs1 w) (rs2 w) (funct7 w)) (code 0x33 t) ∙ (ap (λ x. r_type 0x33 x (rd w) (rs1 w) (rs2 w) (funct7 w)) (sym h.0) ∙ ap (λ x. r_type 0x33 (reg_op_code c) (rd w) (rs1 w) (rs2 w) x) (sym h.1)))))
+      (λ c h other. is_r w small ∙ (ap (λ x. r_type x (funct3 w) (rd w) (rs1 w) (rs2 w) (funct7 w)) (code 0x33 t) ∙ (ap (λ x. r_type 0x33 x (rd w) (rs1 w) (rs2 w) (funct7 w)) (sym h.0) ∙ ap (λ x. r_type 0x33 (reg_op_code c) (rd w) (rs1 w) (rs2 w) x) (sym h.1)))))
       (gives_if (Encodes w) (o == 0x0F) _ _ (λ t. gives_if (Encodes w) (funct3 w == 0) _ None (λ u. gives_some (Encodes w) Fence (λ other. absurd (other refl))) (gives_none (Encodes w)))
       (gives_if (Encodes w) (o == 0x73) _ None (λ t. gives_if (Encodes w) (w == 0x73) _ _ (λ u. gives_some (Encodes w) Ecall (λ other. eqb-true w 0x73 u))
-        (gives_if (Encodes w) (w == 0x100073) _ None (λ u. gives_some (Encodes w) Ebreak (λ other. eqb-true w 0x100073 u)) (gives_none (Encodes w)))) (gives_none (Encodes w))))))))))))
+      (gives_if (Encodes w) (w == 0x100073) _ None (λ u. gives_some (Encodes w) Ebreak (λ other. eqb-true w 0x100073 u)) (gives_none (Encodes w)))) (gives_none (Encodes w))))))))))))
 
   pub unique_word : (i : Instr) → instr w ≡ Some i → i ≢ Fence → w ≡ encoding i
   unique_word i e other = row_encodes (opcode w) refl i e other

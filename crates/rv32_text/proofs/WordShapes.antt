@@ -267,7 +267,7 @@ text_by (Mnemonics.Upper op) t h =
     let u = from_upper a.in_rest.value a.in_rest.fits in
     let back : u.number * 2 ^ 12 / 2 ^ 12 ≡ u.number = omega arith in
     let tail_is : a.tail ≡ ended (hex_text 5 (u.number * 2 ^ 12 / 2 ^ 12)) =
-      a.in_rest.is ∙ (ap (λ (z : ℤ). hex_text 5 (natural z) ++ ended []) u.is ∙ ap (λ (n : ℕ). hex_text 5 n ++ ended []) (sym back)) in
+    a.in_rest.is ∙ (ap (λ (z : ℤ). hex_text 5 (natural z) ++ ended []) u.is ∙ ap (λ (n : ℕ). hex_text 5 n ++ ended []) (sym back)) in
     subst (λ (x : List ℕ). IsText (Mnemonics.Upper op) x) (sym (register_text a.number t a.tail (hex_text 5 (u.number * 2 ^ 12 / 2 ^ 12)) a.is tail_is))
     (instruction_text (Upper op a.number (u.number * 2 ^ 12)) (a.small, (let small : u.number < 2 ^ 20 = u.small in omega arith), omega arith) (λ e. absurd (cc)))
 text_by Mnemonics.Jal t h =

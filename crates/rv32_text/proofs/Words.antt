@@ -53,7 +53,7 @@ row_tells Q o w h =
     (choice Q (o == 0x03) _ _ (λ t. each_tells Q (load_width_of (funct3 w)) (λ (x : LoadWidth). Load x (rd w) (rs1 w) (imm_i w)) (λ a e. cc))
     (choice Q (o == 0x23) _ _ (λ t. each_tells Q (store_width_of (funct3 w)) (λ (x : StoreWidth). Store x (rs1 w) (rs2 w) (imm_s w)) (λ a e. cc))
     (choice Q (o == 0x13) _ _ (λ t. choice Q (funct3 w == 1) _ _ (λ u. shift_tells Q w)
-      (choice Q (funct3 w == 5) _ _ (λ u. shift_tells Q w) (each_tells Q (imm_op_of (funct3 w)) (λ (x : ImmOp). OpImm x (rd w) (rs1 w) (imm_i w)) (λ a e. cc))))
+    (choice Q (funct3 w == 5) _ _ (λ u. shift_tells Q w) (each_tells Q (imm_op_of (funct3 w)) (λ (x : ImmOp). OpImm x (rd w) (rs1 w) (imm_i w)) (λ a e. cc))))
     (choice Q (o == 0x33) _ _ (λ t. each_tells Q (reg_op_of (funct3 w) (funct7 w)) (λ (x : RegOp). Op x (rd w) (rs1 w) (rs2 w)) (λ a e. cc))
     (choice Q (o == 0x0F) _ _ (λ t. choice Q (funct3 w == 0) _ None (λ u e. h (eqb-true o 15 t) (eqb-true (funct3 w) 0 u)) (none_tells Q))
     (choice Q (o == 0x73) _ None (λ t. choice Q (w == 0x73) _ _ (λ u e. absurd (cc)) (choice Q (w == 0x100073) _ None (λ u e. absurd (cc)) (none_tells Q))) (none_tells Q)))))))))))

@@ -38,16 +38,21 @@ fn upper_immediate(digits: i64) -> u32
 }
 
 /// A register and two operands, with which the text ends.
-fn three_operands(text: &[u8], from: usize, second: Field, between: &str, third: Field, after: &str) -> Result<(i64, i64, i64), usize>
+fn three_operands(
+    text: &[u8],
+    from: usize,
+    second: Field,
+    between: &str,
+    third: Field,
+    after: &str,
+) -> Result<(i64, i64, i64), usize>
     requires from { from ≤ length text.now }
     requires between { IsMark between.now }
     requires after { IsMark (ended after.now) }
-    ensures {
-        MatchResult result
-            (λ r. Fits Field.Register r.0 × Fits second r.1 × Fits third r.2
-                × (rest text.now from ≡ (write_field Field.Register r.0 ++ codes ", ") ++ ((write_field second r.1 ++ between.now) ++ (write_field third r.2 ++ ended after.now))))
-            (λ place. StopsAt (RegisterAnd (Joined (Operand second between.now) (Operand third (ended after.now)))) text.now from place)
-    }
+    ensures { MatchResult result
+        (λ r. Fits Field.Register r.0 × Fits second r.1 × Fits third r.2
+        × (rest text.now from ≡ (write_field Field.Register r.0 ++ codes ", ") ++ ((write_field second r.1 ++ between.now) ++ (write_field third r.2 ++ ended after.now))))
+        (λ place. StopsAt (RegisterAnd (Joined (Operand second between.now) (Operand third (ended after.now)))) text.now from place) }
 {
     match operand(text, from, Field::Register, ", ") {
         Err(place) => Err(place),
@@ -76,7 +81,14 @@ pub(crate) fn read_jal(text: &[u8], from: usize) -> Result<Instr, usize>
     requires { from ≤ length text.now }
     ensures { MatchResult result (IsRead Mnemonics.Jal text.now from) (λ place. StopsAt (Shape Mnemonics.Jal) text.now from place) }
 {
-    match two_operands(text, from, Field::Register, ", ", Field::Offset(Offset::Jump), "") {
+    match two_operands(
+        text,
+        from,
+        Field::Register,
+        ", ",
+        Field::Offset(Offset::Jump),
+        "",
+    ) {
         Err(place) => Err(place),
         Ok((rd, offset)) => {
             let rd = register(rd);
@@ -90,7 +102,14 @@ pub(crate) fn read_jalr(text: &[u8], from: usize) -> Result<Instr, usize>
     requires { from ≤ length text.now }
     ensures { MatchResult result (IsRead Mnemonics.Jalr text.now from) (λ place. StopsAt (Shape Mnemonics.Jalr) text.now from place) }
 {
-    match three_operands(text, from, Field::Register, ", ", Field::Offset(Offset::Short), "") {
+    match three_operands(
+        text,
+        from,
+        Field::Register,
+        ", ",
+        Field::Offset(Offset::Short),
+        "",
+    ) {
         Err(place) => Err(place),
         Ok((rd, rs1, offset)) => {
             let rd = register(rd);
@@ -105,7 +124,14 @@ pub(crate) fn read_branch(cond: Cond, text: &[u8], from: usize) -> Result<Instr,
     requires { from ≤ length text.now }
     ensures { MatchResult result (IsRead (Mnemonics.Branch cond) text.now from) (λ place. StopsAt (Shape (Mnemonics.Branch cond)) text.now from place) }
 {
-    match three_operands(text, from, Field::Register, ", ", Field::Offset(Offset::Branch), "") {
+    match three_operands(
+        text,
+        from,
+        Field::Register,
+        ", ",
+        Field::Offset(Offset::Branch),
+        "",
+    ) {
         Err(place) => Err(place),
         Ok((rs1, rs2, offset)) => {
             let rs1 = register(rs1);
@@ -125,7 +151,14 @@ pub(crate) fn read_load(width: LoadWidth, text: &[u8], from: usize) -> Result<In
     requires { from ≤ length text.now }
     ensures { MatchResult result (IsRead (Mnemonics.Load width) text.now from) (λ place. StopsAt (Shape (Mnemonics.Load width)) text.now from place) }
 {
-    match three_operands(text, from, Field::Offset(Offset::Short), "(", Field::Register, ")") {
+    match three_operands(
+        text,
+        from,
+        Field::Offset(Offset::Short),
+        "(",
+        Field::Register,
+        ")",
+    ) {
         Err(place) => Err(place),
         Ok((rd, offset, rs1)) => {
             let rd = register(rd);
@@ -145,7 +178,14 @@ pub(crate) fn read_store(width: StoreWidth, text: &[u8], from: usize) -> Result<
     requires { from ≤ length text.now }
     ensures { MatchResult result (IsRead (Mnemonics.Store width) text.now from) (λ place. StopsAt (Shape (Mnemonics.Store width)) text.now from place) }
 {
-    match three_operands(text, from, Field::Offset(Offset::Short), "(", Field::Register, ")") {
+    match three_operands(
+        text,
+        from,
+        Field::Offset(Offset::Short),
+        "(",
+        Field::Register,
+        ")",
+    ) {
         Err(place) => Err(place),
         Ok((rs2, offset, rs1)) => {
             let rs2 = register(rs2);

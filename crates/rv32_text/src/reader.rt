@@ -11,7 +11,9 @@ ghost use Rattle.rv32_text.specs.Texts.{hex_text, text_of};
 
 use crate::digits::{Digits, read_digits};
 use crate::expect::expect_last;
-use crate::instruction::{read_branch, read_jal, read_jalr, read_load, read_op, read_op_imm, read_store, read_upper};
+use crate::instruction::{
+    read_branch, read_jal, read_jalr, read_load, read_op, read_op_imm, read_store, read_upper,
+};
 use crate::mnemonic::Mnemonic;
 use crate::start::read_start;
 use guest_model::Instr;

@@ -63,22 +63,18 @@ const MNEMONICS: [Mnemonic; 49] = [
 
 /// The mnemonic whose start the text has; else the greatest number of letters that a start and the text share.
 pub(crate) fn read_start(text: &[u8]) -> Result<Mnemonic, usize>
-    ensures {
-        MatchResult result
-            (λ m. (ended text.now ≡ start_of m ++ rest text.now (length (start_of m))) × (length (start_of m) ≤ length text.now))
-            (λ place. HasNoStart text.now place)
-    }
+    ensures { MatchResult result
+        (λ m. (ended text.now ≡ start_of m ++ rest text.now (length (start_of m))) × (length (start_of m) ≤ length text.now))
+        (λ place. HasNoStart text.now place) }
 {
     find_start(text, &MNEMONICS)
 }
 
 /// The same for these mnemonics.
 fn find_start(text: &[u8], mnemonics: &[Mnemonic]) -> Result<Mnemonic, usize>
-    ensures {
-        MatchResult result
-            (λ m. (ended text.now ≡ start_of m ++ rest text.now (length (start_of m))) × (length (start_of m) ≤ length text.now))
-            (λ place. EachParts text.now place mnemonics.now × (place ≡ 0 ⊎ Longest text.now place))
-    }
+    ensures { MatchResult result
+        (λ m. (ended text.now ≡ start_of m ++ rest text.now (length (start_of m))) × (length (start_of m) ≤ length text.now))
+        (λ place. EachParts text.now place mnemonics.now × (place ≡ 0 ⊎ Longest text.now place)) }
 {
     let mut most = 0;
     for &mnemonic in mnemonics {

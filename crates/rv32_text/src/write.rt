@@ -98,13 +98,22 @@ impl fmt::Display for Operands {
             Instr::Jal { rd, offset } => write!(f, "x{rd}, {offset}"),
             Instr::Jalr { rd, rs1, offset } => write!(f, "x{rd}, x{rs1}, {offset}"),
             Instr::Branch {
-                rs1, rs2, offset, ..
+                rs1,
+                rs2,
+                offset,
+                ..
             } => write!(f, "x{rs1}, x{rs2}, {offset}"),
             Instr::Load {
-                rd, rs1, offset, ..
+                rd,
+                rs1,
+                offset,
+                ..
             } => write!(f, "x{rd}, {offset}(x{rs1})"),
             Instr::Store {
-                rs1, rs2, offset, ..
+                rs1,
+                rs2,
+                offset,
+                ..
             } => write!(f, "x{rs2}, {offset}(x{rs1})"),
             Instr::OpImm { rd, rs1, imm, .. } => write!(f, "x{rd}, x{rs1}, {imm}"),
             Instr::Op { rd, rs1, rs2, .. } => write!(f, "x{rd}, x{rs1}, x{rs2}"),

@@ -19,10 +19,11 @@ overflow_add-longer c =
     omega (arith, c.in-Some.ensures.0)
 
 pub returns-then-may_begin : goal.returns-then-may_begin
-returns-then-may_begin c =
-    (omega (arith, c.requires.inside, c.if-used-count.false, c.count.ensures),
-    c.may_begin.ensures.0 c.if-may_begin.true,
-    hex_next c.args.used c.args.value c.in-Some.digit c.args.letter c.in-Some.ensures.0 c.in-Some.ensures.1)
+returns-then-may_begin c = (
+  omega (arith, c.requires.inside, c.if-used-count.false, c.count.ensures),
+  c.may_begin.ensures.0 c.if-may_begin.true,
+  hex_next c.args.used c.args.value c.in-Some.digit c.args.letter c.in-Some.ensures.0 c.in-Some.ensures.1,
+)
 
 pub returns-else-may_begin : goal.returns-else-may_begin
 returns-else-may_begin c =

@@ -23,9 +23,10 @@ if_none (Some i) b e n = absurd (cc)
 pub returns : goal.returns
 returns c =
     let last : 7 ≡ c.args.place = omega (arith, c.requires.inside, c.if-place-lt7.false) in
-    let row : c.decode.result ≡ instr c.args.value = c.decode.ensures.row in
-    (λ t. subst (λ (p : ℕ). CanComplete Rows.Word (p + 1) c.args.value) last
-      (let small : c.args.value < 2 ^ 32 = last_small c.args.value (rw (sym last) at c.requires.begun) in
-      (small, (small, sym row ∙ none_if c.decode.result c.is_none.result c.is_none.ensures t))),
-    λ h. (let there : CanComplete Rows.Word 8 c.args.value = subst (λ (p : ℕ). CanComplete Rows.Word (p + 1) c.args.value) (sym last) h in
-      if_none c.decode.result c.is_none.result c.is_none.ensures (row ∙ there.1.1)))
+    let row : c.decode.result ≡ instr c.args.value = c.decode.ensures.row in (
+      λ t. subst (λ (p : ℕ). CanComplete Rows.Word (p + 1) c.args.value) last
+          (let small : c.args.value < 2 ^ 32 = last_small c.args.value (rw (sym last) at c.requires.begun) in
+          (small, (small, sym row ∙ none_if c.decode.result c.is_none.result c.is_none.ensures t))),
+      λ h. (let there : CanComplete Rows.Word 8 c.args.value = subst (λ (p : ℕ). CanComplete Rows.Word (p + 1) c.args.value) (sym last) h in
+          if_none c.decode.result c.is_none.result c.is_none.ensures (row ∙ there.1.1)),
+    )

@@ -10,6 +10,8 @@ returns-in-None c =
 
 pub returns-else-number-eq0 : goal.returns-else-number-eq0
 returns-else-number-eq0 c =
-    let small : c.in-Some.number < 2 ^ 24 = rw c.in-Some.is at c.requires.small in
-    (omega arith, digit_more c.in-Some.number c.args.digit (omega (arith, c.if-number-eq0.false)) (omega arith) (omega arith)
-    ∙ ap (λ (o : Option ℕ). digits_so_far o ++ ((48 + c.args.digit) ∷ [])) (sym c.in-Some.is))
+    let small : c.in-Some.number < 2 ^ 24 = rw c.in-Some.is at c.requires.small in (
+      omega arith,
+      digit_more c.in-Some.number c.args.digit (omega (arith, c.if-number-eq0.false)) (omega arith) (omega arith)
+          ∙ ap (λ (o : Option ℕ). digits_so_far o ++ ((48 + c.args.digit) ∷ [])) (sym c.in-Some.is),
+    )
