@@ -30,19 +30,6 @@ use Rattle.rv32_text.specs.Operands.{InField}
 abbrev pub below_32 : Range
 below_32 = record { least = 0; greatest = 31; even = false }
 
-pub below_32_usable : IsUsable below_32
-below_32_usable = record { low = omega arith; wide = omega arith; small = omega arith }
-
-pub positive_usable : (o : Offset) → IsUsable (positive_range o)
-positive_usable Offsets.Short = record { low = omega arith; wide = omega arith; small = omega arith }
-positive_usable Offsets.Branch = record { low = omega arith; wide = omega arith; small = omega arith }
-positive_usable Offsets.Jump = record { low = omega arith; wide = omega arith; small = omega arith }
-
-pub negative_usable : (o : Offset) → IsUsable (negative_range o)
-negative_usable Offsets.Short = record { low = omega arith; wide = omega arith; small = omega arith }
-negative_usable Offsets.Branch = record { low = omega arith; wide = omega arith; small = omega arith }
-negative_usable Offsets.Jump = record { low = omega arith; wide = omega arith; small = omega arith }
-
 amount_in : (n : ℕ) → IsShiftAmount (pos n) → InRange below_32 n
 amount_in n h = record { low = omega arith; high = omega (arith, ints, h.1); parity = λ e. absurd (cc) }
 

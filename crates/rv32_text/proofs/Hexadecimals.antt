@@ -186,14 +186,6 @@ small_next used n d h k =
 -- ---- what is refused
 
 module _ (digits : Digits) (used n letter : ℕ) where
-  pub refuses_more : used ≡ digit_count digits → NoneBegins (HasDigits digits) (λ m. hex_text (digit_count digits) m) (hex_text used n ++ (letter ∷ []))
-  refuses_more all m more fits e =
-      let whole : length (hex_text (digit_count digits) m) ≡ digit_count digits = length_hex (digit_count digits) m in
-      let part : length (hex_text used n) ≡ used = length_hex used n in
-      let one : length (hex_text used n ++ (letter ∷ [])) ≡ length (hex_text used n) + 1 = length-append (hex_text used n) (letter ∷ []) in
-      let both : length (hex_text (digit_count digits) m) ≡ length (hex_text used n ++ (letter ∷ [])) + length more = ap length e ∙ length-append (hex_text used n ++ (letter ∷ [])) more in
-      omega arith
-
   pub refuses_letter : ((d : ℕ) → d < 16 → hex_digit d ≢ letter) → NoneBegins (HasDigits digits) (λ m. hex_text (digit_count digits) m) (hex_text used n ++ (letter ∷ []))
   refuses_letter never m more fits e =
       let each : Each IsHexDigit ((hex_text used n ++ (letter ∷ [])) ++ more) = rw e at (hex_letters (digit_count digits) m) in
@@ -210,13 +202,7 @@ module _ (digits : Digits) (used n letter : ℕ) where
       (ap (λ (x : ℕ). hex_text x m) (sym count) ∙ (e ∙ ap (λ (x : List ℕ). x ++ more) (sym is))) in
       never (small, (let P : ℕ → Type 0 = λ x. HasDigits digits (completed digits (digit_count digits - (used + 1)) x) in subst P same (completes_high digits (digit_count digits - (used + 1)) m fits)))
 
--- a row with all its digits, and one that lacks some
-pub whole_row : (digits : Digits) (used n : ℕ) → used ≡ digit_count digits → CanComplete digits used n
-    → HasDigits digits n × (hex_text (digit_count digits) n ≡ hex_text used n)
-whole_row digits used n all h =
-    let none : digit_count digits - used ≡ 0 = omega arith in
-    ((let P : ℕ → Type 0 = λ x. HasDigits digits (completed digits x n) in subst P none h.1), ap (λ (x : ℕ). hex_text x n) (sym all))
-
+-- a row that lacks digits
 pub part_of_row : (digits : Digits) (used n m : ℕ) → used ≢ digit_count digits → hex_text (digit_count digits) m ≢ hex_text used n
 part_of_row digits used n m part e =
     let whole : length (hex_text (digit_count digits) m) ≡ digit_count digits = length_hex (digit_count digits) m in

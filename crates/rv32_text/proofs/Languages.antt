@@ -59,19 +59,6 @@ stops_second First Second a s b k itself some is h = record {
       (sym (append_assoc j.first j.second u) ∙ (ap (λ (x : List ℕ). x ++ u) (sym j.is) ∙ (e ∙ append_assoc a h.front (h.letter ∷ v)))));
 }
 
--- sets with the same texts
-pub stops_same : (L M : List ℕ → Type 0) (s : List ℕ) (k : ℕ) → ((t : List ℕ) → L t → M t) → ((t : List ℕ) → M t → L t) → Stops L s k → Stops M s k
-stops_same L M s k to from h = record {
-  front = h.front;
-  letter = h.letter;
-  after = h.after;
-  more = h.more;
-  splits = h.splits;
-  place_is = h.place_is;
-  reached = to (h.front ++ h.more) h.reached;
-  no_further = λ t u v m e. h.no_further t u v (from t m) e;
-}
-
 -- where a loop over the letters of a text stops
 module _ {V : Type 0} (Fits : V → Type 0) (write : V → List ℕ) (text front : List ℕ) (value : Option V)
     (begins : CanBegin Fits write front) (value_is : IsValueOf Fits write front value) where

@@ -54,9 +54,11 @@ fn fence_may_begin(place: usize, value: u32) -> bool
     requires begun { CanComplete Digits.Fence place (value / 16) }
     ensures { IsTrue result ↔ CanComplete Digits.Fence (place + 1) value }
 {
+    // funct3, in bits 14 to 12
     if place == 4 {
         return value % 8 == 0;
     }
+    // the opcode, in bits 6 to 0
     if place == 6 {
         return value % 8 == 0;
     }
