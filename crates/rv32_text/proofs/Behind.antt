@@ -1,8 +1,8 @@
 -- Values whose texts are those of other values behind a mark
-use Rattle.std.proofs.Common.{◌≡◌, ◌≢◌, ℕ, ◌+◌, List, [], ◌∷◌, ◌++◌, length, refl, sym, ap, ◌∙◌, Option, Some, None, arith, append_assoc, length-append}
+use Rattle.std.proofs.Common.{◌≡◌, ℕ, ◌+◌, List, [], ◌∷◌, ◌++◌, length, sym, ap, ◌∙◌, Option, Some, None, append_assoc, length-append}
 use Rattle.std.specs.Prelude.{option_map}
-use Rattle.rv32_text.specs.Languages.{BeginsBy, CanBegin, IsValueOf, Reads}
-use Rattle.rv32_text.proofs.Languages.{cons_head, cons_tail}
+use Rattle.rv32_text.specs.Languages.{BeginsBy, IsValueOf, Reads}
+use Rattle.rv32_text.proofs.Languages.{cons_head}
 
 -- the first letter of t, if it has one, is the first of s
 abbrev pub StartsAs : List ℕ → List ℕ → Type 0

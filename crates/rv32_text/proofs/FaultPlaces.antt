@@ -1,20 +1,20 @@
 -- From where a reader stops to the place of a fault
-use Rattle.std.proofs.Common.{◌≡◌, ◌≢◌, ℕ, zero, suc, ◌+◌, ◌-◌, ◌<◌, ◌≤◌, ◌^◌, List, [], ◌∷◌, ◌++◌, length, get_or, take, drop, refl, sym, ap, subst, ◌∙◌, ◌⊎◌, inl, inr, arith, append_assoc, length-append, Result, Ok, Err}
+use Rattle.std.proofs.Common.{◌≡◌, ◌≢◌, ℕ, zero, suc, ◌+◌, ◌<◌, ◌≤◌, ◌^◌, List, [], ◌∷◌, ◌++◌, length, get_or, take, drop, refl, sym, ap, subst, ◌∙◌, inl, inr, arith, append_assoc, length-append, Result, Ok, Err}
 use Rattle.std.specs.Prelude.{MatchResult}
 use Rattle.std.proofs.lemmas.List.{take_at, take-append-le, take-take, take-append-drop, get_or_at, append_cancel_left, append_cancel_right, append-nil}
 use Rattle.std.proofs.lemmas.Bool.{cases_lt}
 use Rattle.guest_model.specs.InstructionTable.{instr}
 use Rattle.rv32_text.specs.declared.mnemonic.Mnemonic.{Mnemonic}
-use Rattle.rv32_text.specs.Languages.{ended, rest, Stops, StopsAt, Differs}
+use Rattle.rv32_text.specs.Languages.{ended, rest, Stops, StopsAt}
 use Rattle.rv32_text.specs.FaultPlace.{BeginsWordText, IsFaultPlace}
-use Rattle.rv32_text.specs.Mnemonics.{PartsBy, Longest, HasNoStart}
+use Rattle.rv32_text.specs.Mnemonics.{HasNoStart}
 use Rattle.rv32_text.specs.Shapes.{Shape, IsWordRead}
 use Rattle.rv32_text.specs.Starts.{start_of, mnemonic_by}
 use Rattle.rv32_text.specs.Texts.{operands_by, text_of}
-use Rattle.rv32_text.proofs.Languages.{Each, each_append, each_front, each_back, cons_head}
-use Rattle.rv32_text.proofs.Decimals.{CutBeforeLast, cut_before_last}
+use Rattle.rv32_text.proofs.Languages.{Each, each_front, each_back}
+use Rattle.rv32_text.proofs.Decimals.{cut_before_last}
 use Rattle.rv32_text.proofs.MnemonicTable.{start_told}
-use Rattle.rv32_text.proofs.WordShapes.{IsText, text_by, word_shape, shape_example}
+use Rattle.rv32_text.proofs.WordShapes.{text_by, word_shape, shape_example}
 
 -- the text of some word, with its end
 pub record IsWordText (t : List ℕ) : Type 0 where

@@ -1,16 +1,16 @@
 -- The fields of instructions, by the numbers and digits that they are made of
-use Rattle.std.proofs.Common.{◌≡◌, ◌≢◌, ℕ, zero, suc, ◌+◌, ◌<◌, ◌≤◌, ◌^◌, Bool, true, false, List, [], ◌∷◌, ◌++◌, length, drop, refl, sym, ap, subst, ◌∙◌, Option, Some, None, arith, decimal, ℤ, pos, negsuc}
-use Rattle.std.specs.Prelude.{option_map, ◌≤ℤ◌, ◌%◌}
+use Rattle.std.proofs.Common.{◌≡◌, ℕ, zero, suc, ◌+◌, ◌<◌, ◌^◌, false, List, [], ◌∷◌, ◌++◌, drop, refl, sym, ap, subst, ◌∙◌, Option, None, arith, decimal, ℤ, pos, negsuc}
+use Rattle.std.specs.Prelude.{option_map}
 use Rattle.std.specs.Fmt.{signed_decimal}
 use Rattle.std.proofs.lemmas.Int.{ints, to_z-of_z}
 use mir.Val.{SFits, to_z, of_z}
 use mir.Syntax.{w64}
 use Rattle.std.proofs.lemmas.Bool.Decides.{nat_tests}
 use Rattle.report_text.specs.Texts.{hex_digit}
-use Rattle.rv32_asm.specs.Encoding.{IsShortOffset, IsBranchOffset, IsJumpOffset, IsShiftAmount}
+use Rattle.rv32_asm.specs.Encoding.{IsShiftAmount}
 use Rattle.rv32_text.specs.Texts.{hex_text}
-use Rattle.rv32_text.specs.Languages.{BeginsBy, CanBegin, Reads}
-use Rattle.rv32_text.specs.Numbers.{IsUsable, InRange, IsDigit}
+use Rattle.rv32_text.specs.Languages.{BeginsBy, Reads}
+use Rattle.rv32_text.specs.Numbers.{InRange, IsDigit}
 use Rattle.rv32_text.specs.Hexadecimals.{HasDigits}
 use Rattle.rv32_text.specs.declared.digits.Digits.TheVariants as Rows
 use Rattle.rv32_text.specs.declared.fields.Offset.{Offset}
@@ -19,7 +19,7 @@ use Rattle.rv32_text.specs.declared.fields.Field.{Field}
 use Rattle.rv32_text.specs.declared.fields.Field.TheVariants as Fields
 use Rattle.rv32_text.specs.declared.number.Range.{Range}
 use Rattle.rv32_text.specs.Fields.{IsOffset, Fits, natural, write_field, positive_range, negative_range, minus}
-use Rattle.rv32_text.proofs.Languages.{Each, each_append, cons_head, cons_tail}
+use Rattle.rv32_text.proofs.Languages.{Each, cons_head, cons_tail}
 use Rattle.rv32_text.proofs.Behind.{StartsAs, Source, Becomes, reads_behind}
 use Rattle.rv32_text.proofs.Decimals.{decimal_digits}
 use Rattle.rv32_text.proofs.Hexadecimals.{IsHexDigit, hex_letters}

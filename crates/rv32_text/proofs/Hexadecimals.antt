@@ -1,16 +1,15 @@
 -- Rows of hexadecimal digits and their beginnings
-use Rattle.std.proofs.Common.{◌≡◌, ◌≢◌, ℕ, zero, suc, ◌+◌, ◌-◌, ◌*◌, ◌^◌, ◌<◌, ◌≤◌, List, [], ◌∷◌, ◌++◌, length, refl, sym, ap, subst, ◌∙◌, Option, Some, None, arith, add-one, append_assoc, length-append, take, drop}
+use Rattle.std.proofs.Common.{◌≡◌, ◌≢◌, ℕ, zero, suc, ◌+◌, ◌-◌, ◌*◌, ◌^◌, ◌<◌, ◌≤◌, List, [], ◌∷◌, ◌++◌, length, refl, sym, ap, subst, ◌∙◌, arith, add-one, append_assoc, length-append, take}
 use Rattle.std.specs.Prelude.{◌/◌, ◌%◌}
 use Rattle.std.proofs.lemmas.Bool.Decides.{nat_tests}
 use Rattle.std.proofs.lemmas.List.{same_from_push, append-nil, take_at}
 use Rattle.std.proofs.Math.Nat.{pow-suc, mul_assoc, add-suc, pow-le-pow_right}
-use Rattle.guest_model.specs.InstructionTable.{instr}
 use Rattle.report_text.specs.Texts.{hex_digit}
 use Rattle.rv32_text.specs.Texts.{hex_text}
 use Rattle.rv32_text.specs.declared.digits.Digits.{Digits}
 use Rattle.rv32_text.specs.declared.digits.Digits.TheVariants as Rows
 use Rattle.rv32_text.specs.Hexadecimals.{digit_count, HasDigits, last_digit, completed, CanComplete}
-use Rattle.rv32_text.specs.Languages.{CanBegin, NoneBegins, IsValueOf}
+use Rattle.rv32_text.specs.Languages.{CanBegin, NoneBegins}
 use Rattle.rv32_text.proofs.Languages.{Each, each_append, each_front, each_back}
 use Rattle.rv32_text.proofs.Words.{HasFenceBits, fence_has, fence_bits, even_word}
 

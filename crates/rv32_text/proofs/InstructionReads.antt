@@ -1,32 +1,24 @@
 -- Instructions by the operands that are read
-use Rattle.std.proofs.Common.{◌≡◌, ◌≢◌, ℕ, ◌+◌, ◌<◌, ◌≤◌, ◌^◌, List, [], ◌∷◌, ◌++◌, codes, refl, sym, ap, subst, ◌∙◌, arith, append_assoc, ℤ, pos, negsuc, Result, Ok, Err, Some, Option}
-use Rattle.std.specs.Prelude.{◌/◌, ◌%◌, MatchResult, IfOk}
-use Rattle.std.specs.Result.{IsOk}
+use Rattle.std.proofs.Common.{◌≡◌, ℕ, ◌<◌, ◌^◌, List, [], ◌++◌, codes, refl, sym, ap, subst, ◌∙◌, arith, append_assoc, ℤ, pos, negsuc}
+use Rattle.std.specs.Prelude.{◌/◌, ◌%◌}
 use Rattle.std.specs.Fmt.{signed_decimal}
 use Rattle.std.proofs.lemmas.Int.{ints, to_z-of_z}
 use mir.Val.{SFits, to_z, of_z}
 use mir.Syntax.{w32}
-use Rattle.guest_model.specs.InstructionTable.{instr}
-use Rattle.guest_model.specs.declared.instr.Instr.{Instr}
 use Rattle.guest_model.specs.declared.instr.Instr.TheVariants.{Upper, Jalr, Branch, Load, Store}
 use Rattle.guest_model.specs.declared.instr.UpperOp.{UpperOp}
 use Rattle.guest_model.specs.declared.instr.Cond.{Cond}
 use Rattle.guest_model.specs.declared.instr.LoadWidth.{LoadWidth}
 use Rattle.guest_model.specs.declared.instr.StoreWidth.{StoreWidth}
-use Rattle.rv32_asm.specs.Encoding.{IsShortOffset, IsBranchOffset, IsInRange}
-use Rattle.rv32_text.specs.declared.digits.Digits.TheVariants as Rows
+use Rattle.rv32_asm.specs.Encoding.{IsShortOffset, IsBranchOffset}
 use Rattle.rv32_text.specs.declared.fields.Offset.{Offset}
 use Rattle.rv32_text.specs.declared.fields.Offset.TheVariants as Offsets
 use Rattle.rv32_text.specs.declared.fields.Field.TheVariants as Fields
-use Rattle.rv32_text.specs.declared.mnemonic.Mnemonic.{Mnemonic}
 use Rattle.rv32_text.specs.declared.mnemonic.Mnemonic.TheVariants as Mnemonics
-use Rattle.rv32_text.specs.Fields.{IsOffset, Fits, write_field, natural}
-use Rattle.rv32_text.specs.Hexadecimals.{HasDigits}
-use Rattle.rv32_text.specs.Languages.{ended, rest, StopsAt}
-use Rattle.rv32_text.specs.Starts.{mnemonic_of, mnemonic_by}
-use Rattle.rv32_text.specs.Texts.{hex_text, register, operands, operands_by}
-use Rattle.rv32_text.specs.Shapes.{Row, Nothing, Shape, IsRead, IsWordRead}
-use Rattle.rv32_text.proofs.WordShapes.{operands_any}
+use Rattle.rv32_text.specs.Fields.{IsOffset, write_field, natural}
+use Rattle.rv32_text.specs.Languages.{ended, rest}
+use Rattle.rv32_text.specs.Texts.{hex_text, register}
+use Rattle.rv32_text.specs.Shapes.{IsRead}
 
 offset_fits : (o : Offset) (z : ℤ) → IsOffset o z → SFits w32 z
 offset_fits Offsets.Short (pos n) h = record { sfits = omega (arith, ints, h.1) }

@@ -1,5 +1,5 @@
 -- Values with literals behind them, read as far as their letters go
-use Rattle.std.proofs.Common.{◌≡◌, ◌≢◌, ℕ, ◌+◌, ◌<◌, ◌≤◌, List, [], ◌∷◌, ◌++◌, length, drop, codes, refl, sym, ap, subst, ◌∙◌, ◌⊎◌, inl, inr, Option, Some, None, arith, append_assoc, length-append, length-drop}
+use Rattle.std.proofs.Common.{◌≡◌, ℕ, ◌+◌, ◌<◌, ◌≤◌, List, [], ◌∷◌, ◌++◌, length, drop, codes, refl, sym, ap, subst, ◌∙◌, ◌⊎◌, inl, inr, Option, Some, None, arith, append_assoc, length-append, length-drop}
 use Rattle.std.proofs.lemmas.List.{append_cancel_left, drop_at, drop-drop}
 use Rattle.rv32_text.specs.Languages.{ended, rest, Joined, Stops, StopsAt, Differs, CanBegin, Reads, OneOf}
 use Rattle.rv32_text.specs.Operands.{InField, IsMark}

@@ -1,11 +1,9 @@
 -- One digit more in a row: which digits go on towards a number of the row
-use Rattle.std.proofs.Common.{◌≡◌, ◌≢◌, ℕ, zero, suc, ◌+◌, ◌-◌, ◌*◌, ◌^◌, ◌<◌, ◌≤◌, Some, None, arith, refl, subst}
+use Rattle.std.proofs.Common.{◌≡◌, ℕ, zero, suc, ◌+◌, ◌*◌, ◌^◌, ◌<◌, arith, refl, subst}
 use Rattle.std.specs.Prelude.{◌/◌, ◌%◌}
-use Rattle.guest_model.specs.InstructionTable.{instr}
-use Rattle.rv32_text.specs.declared.digits.Digits.{Digits}
 use Rattle.rv32_text.specs.declared.digits.Digits.TheVariants as Rows
-use Rattle.rv32_text.specs.Hexadecimals.{digit_count, HasDigits, completed, CanComplete}
-use Rattle.rv32_text.proofs.Words.{HasFenceBits, fence_has, fence_bits, even_word}
+use Rattle.rv32_text.specs.Hexadecimals.{CanComplete}
+use Rattle.rv32_text.proofs.Words.{fence_has, fence_bits, even_word}
 
 pub upper_step : (place n : ℕ) → place < 5 → CanComplete Rows.Upper place (n / 16) → CanComplete Rows.Upper (place + 1) n
 upper_step zero n inside h = (omega (arith, h.0), omega (arith, h.0))

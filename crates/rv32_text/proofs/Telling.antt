@@ -1,6 +1,6 @@
 -- The text of a word tells the word
-use Rattle.std.proofs.Common.{◌≡◌, ◌≢◌, ℕ, ◌+◌, ◌*◌, ◌<◌, ◌^◌, Bool, true, false, List, [], ◌∷◌, ◌++◌, codes, decimal, refl, sym, ap, subst, ◌∙◌, ◌⊎◌, inl, inr, Option, Some, None, arith, ℤ, pos, negsuc}
-use Rattle.std.specs.Prelude.{◌/◌, ◌%◌, MatchBool}
+use Rattle.std.proofs.Common.{◌≡◌, ◌≢◌, ℕ, ◌<◌, ◌^◌, Bool, true, false, List, [], ◌∷◌, ◌++◌, codes, decimal, refl, sym, ap, subst, ◌∙◌, ◌⊎◌, inl, inr, Option, Some, None, arith, ℤ, pos}
+use Rattle.std.specs.Prelude.{◌/◌, MatchBool}
 use Rattle.std.specs.Fmt.{signed_decimal}
 use Rattle.std.proofs.lemmas.Fmt.{decimal_injective, signed_decimal_injective}
 use Rattle.std.proofs.lemmas.List.{append_cancel_left, append_cancel_right}
@@ -14,7 +14,7 @@ use Rattle.rv32_text.specs.declared.fields.Offset.TheVariants as Offsets
 use Rattle.rv32_text.specs.declared.fields.Field.TheVariants as Fields
 use Rattle.rv32_text.specs.declared.mnemonic.Mnemonic.{Mnemonic}
 use Rattle.rv32_text.specs.declared.mnemonic.Mnemonic.TheVariants as Mnemonics
-use Rattle.rv32_text.specs.Fields.{IsOffset, Fits}
+use Rattle.rv32_text.specs.Fields.{IsOffset}
 use Rattle.rv32_text.specs.Operands.{InField}
 use Rattle.rv32_text.specs.Starts.{start_of, mnemonic_of, mnemonic_by}
 use Rattle.rv32_text.specs.Texts.{hex_text, register, operands, operands_by, text_of}

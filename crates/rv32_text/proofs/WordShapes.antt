@@ -1,6 +1,6 @@
 -- The texts of words are those of their shapes
-use Rattle.std.proofs.Common.{◌≡◌, ◌≢◌, ℕ, ◌+◌, ◌*◌, ◌<◌, ◌≤◌, ◌^◌, Bool, true, false, List, [], ◌∷◌, ◌++◌, codes, decimal, refl, sym, ap, subst, ◌∙◌, Option, Some, None, arith, append_assoc, ℤ, pos, negsuc}
-use Rattle.std.specs.Prelude.{◌/◌, ◌%◌, ◌≤ℤ◌, MatchBool}
+use Rattle.std.proofs.Common.{◌≡◌, ◌≢◌, ℕ, ◌+◌, ◌*◌, ◌<◌, ◌≤◌, ◌^◌, Bool, true, false, List, [], ◌∷◌, ◌++◌, codes, refl, sym, ap, subst, ◌∙◌, Option, Some, None, arith, append_assoc, ℤ, pos, negsuc}
+use Rattle.std.specs.Prelude.{◌/◌, MatchBool}
 use Rattle.std.specs.Fmt.{signed_decimal}
 use Rattle.std.proofs.lemmas.Int.{ints}
 use Rattle.guest_model.specs.InstructionTable.{instr}
@@ -22,7 +22,6 @@ use Rattle.guest_model.specs.declared.instr.RegOp.TheVariants as RegOps
 use Rattle.rv32_asm.specs.Encoding.{r_type, i_type, s_type, b_type, u_type, j_type, upper_opcode, cond_code, load_code, store_code, imm_op_code, shift_kind, reg_op_code, reg_op_kind, is_shift, encoding, IsInRange, IsShiftAmount, IsShortOffset}
 use Rattle.rv32_asm.proofs.TableInRange.{table_in_range}
 use Rattle.rv32_asm.proofs.ReadsBack.{reads_back}
-use Rattle.rv32_text.specs.declared.digits.Digits.TheVariants as Rows
 use Rattle.rv32_text.specs.declared.fields.Offset.{Offset}
 use Rattle.rv32_text.specs.declared.fields.Offset.TheVariants as Offsets
 use Rattle.rv32_text.specs.declared.fields.Field.{Field}
@@ -30,8 +29,7 @@ use Rattle.rv32_text.specs.declared.fields.Field.TheVariants as Fields
 use Rattle.rv32_text.specs.declared.mnemonic.Mnemonic.{Mnemonic}
 use Rattle.rv32_text.specs.declared.mnemonic.Mnemonic.TheVariants as Mnemonics
 use Rattle.rv32_text.specs.Fields.{IsOffset, Fits, write_field, natural}
-use Rattle.rv32_text.specs.Hexadecimals.{HasDigits}
-use Rattle.rv32_text.specs.Languages.{ended, Joined, OneOf}
+use Rattle.rv32_text.specs.Languages.{ended, Joined}
 use Rattle.rv32_text.specs.Starts.{mnemonic_of, mnemonic_by}
 use Rattle.rv32_text.specs.Texts.{hex_text, register, operands, operands_by}
 use Rattle.rv32_text.specs.Shapes.{Operand, RegisterAnd, Last, OffsetAndRegister, immediate_field, Shape}

@@ -1,5 +1,5 @@
 -- Hexadecimal digits as they are printed, byte by byte
-use Rattle.std.proofs.Common.{◌≡◌, ℕ, ◌<◌, ◌^◌, List, [], ◌∷◌, ◌++◌, ap, ◌∙◌, refl, arith}
+use Rattle.std.proofs.Common.{◌≡◌, ℕ, ◌<◌, ◌^◌, [], ◌∷◌, ◌++◌, refl, arith}
 use Rattle.std.specs.Prelude.{◌/◌, ◌%◌}
 use Rattle.report_text.specs.Texts.{hex_digit, byte_text, address_text}
 use Rattle.rv32_text.specs.Texts.{hex_text}

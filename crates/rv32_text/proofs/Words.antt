@@ -1,11 +1,11 @@
 -- Words of FENCE, and words that have no row in the instruction table
-use Rattle.std.proofs.Common.{◌≡◌, ◌≢◌, ℕ, ◌+◌, ◌*◌, ◌<◌, ◌^◌, Bool, true, false, Option, Some, None, refl, ap, sym, ◌∙◌, arith}
+use Rattle.std.proofs.Common.{◌≡◌, ℕ, ◌*◌, Bool, true, false, Option, Some, None, refl, ap, ◌∙◌, arith}
 use Rattle.std.specs.Prelude.{◌/◌, ◌%◌, ◌==◌, if◌then◌else◌, option_map}
 use Rattle.std.proofs.lemmas.Bool.{eqb-true, ne_eqb}
-use Rattle.guest_model.specs.Word.{opcode, rd, funct3, rs1, rs2, funct7, imm_i, imm_s, imm_b, imm_u, imm_j}
-use Rattle.guest_model.specs.InstructionTable.{row_of, instr, cond_of, load_width_of, store_width_of, imm_op_of, shift_of, reg_op_of, shift_row, imm_row}
+use Rattle.guest_model.specs.Word.{opcode, rd, funct3, rs1, rs2, funct7, imm_i, imm_s, imm_b}
+use Rattle.guest_model.specs.InstructionTable.{row_of, instr, cond_of, load_width_of, store_width_of, imm_op_of, shift_of, reg_op_of, shift_row}
 use Rattle.guest_model.specs.declared.instr.Instr.{Instr}
-use Rattle.guest_model.specs.declared.instr.Instr.TheVariants.{Upper, Jal, Jalr, Branch, Load, Store, OpImm, Op, Fence, Ecall, Ebreak}
+use Rattle.guest_model.specs.declared.instr.Instr.TheVariants.{Branch, Load, Store, OpImm, Op, Fence}
 use Rattle.guest_model.specs.declared.instr.Cond.{Cond}
 use Rattle.guest_model.specs.declared.instr.LoadWidth.{LoadWidth}
 use Rattle.guest_model.specs.declared.instr.StoreWidth.{StoreWidth}

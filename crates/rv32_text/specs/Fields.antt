@@ -1,5 +1,5 @@
 -- The fields of instructions in texts: registers, offsets and immediates
-use Rattle.std.specs.Prelude.{ℕ, zero, suc, Bool, true, false, List, ◌++◌, codes, ℤ, pos, negsuc, ◌≤ℤ◌}
+use Rattle.std.specs.Prelude.{ℕ, zero, suc, true, false, List, ◌++◌, codes, ℤ, pos, negsuc, ◌≤ℤ◌}
 use Rattle.std.specs.Fmt.{signed_decimal}
 use Rattle.rv32_asm.specs.Encoding.{IsShortOffset, IsBranchOffset, IsJumpOffset, IsShiftAmount}
 use Rattle.rv32_text.specs.declared.fields.Offset.{Offset}

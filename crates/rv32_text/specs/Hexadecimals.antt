@@ -1,5 +1,5 @@
 -- Rows of hexadecimal digits: which numbers a row may write, digit by digit
-use Rattle.std.specs.Prelude.{◌≡◌, ℕ, zero, suc, ◌+◌, ◌-◌, ◌*◌, ◌^◌, ◌<◌, Option, Some, None}
+use Rattle.std.specs.Prelude.{◌≡◌, ℕ, zero, suc, ◌+◌, ◌-◌, ◌*◌, ◌^◌, ◌<◌, Some, None}
 use Rattle.guest_model.specs.InstructionTable.{instr}
 use Rattle.guest_model.specs.declared.instr.Instr.TheVariants.{Fence}
 use Rattle.rv32_text.specs.declared.digits.Digits.{Digits}

@@ -1,5 +1,5 @@
 -- Sets of texts, and where a reader that goes through a text letter by letter stops
-use Rattle.std.specs.Prelude.{◌≡◌, ◌≢◌, ℕ, ◌+◌, List, [], ◌∷◌, ◌++◌, length, drop, Option, Some, None, MatchOption}
+use Rattle.std.specs.Prelude.{◌≡◌, ◌≢◌, ℕ, ◌+◌, List, [], ◌∷◌, ◌++◌, length, drop, Option, MatchOption}
 
 -- A text with its end, a letter that no text has. So a text that is to end here is read as one letter more.
 abbrev pub ended : List ℕ → List ℕ

@@ -1,5 +1,5 @@
 -- The first letters of a text against all mnemonics
-use Rattle.std.specs.Prelude.{◌≡◌, ℕ, ◌≤◌, List, [], ◌∷◌}
+use Rattle.std.specs.Prelude.{ℕ, ◌≤◌, List, [], ◌∷◌}
 use Rattle.rv32_text.specs.declared.mnemonic.Mnemonic.{Mnemonic}
 use Rattle.rv32_text.specs.Languages.{ended, Differs}
 use Rattle.rv32_text.specs.Starts.{start_of}

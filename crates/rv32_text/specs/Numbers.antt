@@ -1,5 +1,5 @@
 -- Decimal numbers of a range, digit by digit
-use Rattle.std.specs.Prelude.{◌≡◌, ℕ, ◌*◌, ◌%◌, ◌^◌, ◌<◌, ◌≤◌, Bool, true, ◌⊎◌, List, [], Option, Some, None, decimal}
+use Rattle.std.specs.Prelude.{◌≡◌, ℕ, ◌*◌, ◌%◌, ◌^◌, ◌<◌, ◌≤◌, true, ◌⊎◌, List, [], Option, Some, None, decimal}
 use Rattle.rv32_text.specs.declared.number.Range.{Range}
 
 -- the range has 2, which is even, and its numbers are small

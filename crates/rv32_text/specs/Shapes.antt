@@ -1,5 +1,5 @@
 -- What may follow the start of a text: for each mnemonic the fields, and what stands between them
-use Rattle.std.specs.Prelude.{◌≡◌, ℕ, Bool, true, false, Some, List, [], codes}
+use Rattle.std.specs.Prelude.{◌≡◌, ℕ, Bool, true, false, List, [], codes}
 use Rattle.guest_model.specs.InstructionTable.{instr}
 use Rattle.guest_model.specs.declared.instr.Instr.{Instr}
 use Rattle.rv32_asm.specs.Encoding.{is_shift, IsInRange}

@@ -1,5 +1,5 @@
 -- The text of a word: its instruction in assembly language, or `word` and the word itself where it has none
-use Rattle.std.specs.Prelude.{◌≡◌, ℕ, zero, suc, ◌/◌, ◌%◌, ◌^◌, ◌<◌, Option, Some, None, List, [], ◌∷◌, ◌++◌, codes, decimal}
+use Rattle.std.specs.Prelude.{ℕ, zero, suc, ◌/◌, ◌%◌, ◌^◌, Option, Some, None, List, [], ◌∷◌, ◌++◌, codes, decimal}
 use Rattle.std.specs.Fmt.{signed_decimal}
 use Rattle.guest_model.specs.InstructionTable.{instr}
 use Rattle.guest_model.specs.declared.instr.Instr.{Instr}

@@ -1,4 +1,4 @@
-use Rattle.std.proofs.Common.{◌≡◌, ℕ, ◌+◌, ◌*◌, ◌<◌, ◌^◌, ◌∙◌, sym, arith}
+use Rattle.std.proofs.Common.{◌+◌, ◌*◌, ◌<◌, ◌^◌, arith}
 use Rattle.rv32_text.specs.Hexadecimals.{digit_count}
 use Rattle.rv32_text.proofs.Hexadecimals.{hex_next, small_part, small_next, refuses_letter, refuses_digit}
 use Rattle.rv32_text.proofs.digits.longer.Goals as goal

@@ -1,6 +1,6 @@
-use Rattle.std.proofs.Common.{ℕ, ◌+◌, refl, subst, sym}
+use Rattle.std.proofs.Common.{◌+◌, refl, subst, sym}
 use Rattle.rv32_text.specs.declared.digits.Digits.{Digits}
-use Rattle.rv32_text.specs.Hexadecimals.{digit_count, CanComplete}
+use Rattle.rv32_text.specs.Hexadecimals.{CanComplete}
 use Rattle.rv32_text.proofs.Steps.{upper_step}
 use Rattle.rv32_text.proofs.digits.may_begin.Goals as goal
 

@@ -1,4 +1,4 @@
-use Rattle.std.proofs.Common.{◌≡◌, ◌≤◌, ℕ, length, get_or, refl, sym, arith}
+use Rattle.std.proofs.Common.{◌≡◌, ℕ, length, get_or, refl, arith}
 use Rattle.rv32_text.specs.Texts.{hex_text}
 use Rattle.rv32_text.specs.Hexadecimals.{digit_count, HasDigits}
 use Rattle.rv32_text.proofs.Languages.{reads_part, reads_all}

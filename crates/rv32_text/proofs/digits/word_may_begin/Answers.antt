@@ -1,4 +1,4 @@
-use Rattle.std.proofs.Common.{◌≡◌, ℕ, ◌+◌, ◌<◌, ◌^◌, Bool, true, false, not, Option, Some, None, arith, refl, subst, sym, ap, ◌∙◌}
+use Rattle.std.proofs.Common.{◌≡◌, ℕ, ◌+◌, ◌<◌, ◌^◌, Bool, true, false, not, Option, Some, None, arith, refl, subst, sym, ◌∙◌}
 use Rattle.std.specs.Option.{is_some}
 use Rattle.guest_model.specs.declared.instr.Instr.{Instr}
 use Rattle.guest_model.specs.InstructionTable.{instr}

@@ -1,4 +1,4 @@
-use Rattle.std.proofs.Common.{◌≡◌, ◌≢◌, ◌<◌, ◌≤◌, ℕ, List, length, get_or, take, sym, ap, ◌∙◌, arith}
+use Rattle.std.proofs.Common.{◌≡◌, ◌≢◌, ◌<◌, ℕ, List, length, get_or, take, sym, ap, ◌∙◌, arith}
 use Rattle.rv32_text.proofs.Literals.{differs_in_letter, differs_at_text_end, begins_with}
 use Rattle.rv32_text.proofs.expect.expect.Goals as goal
 

@@ -1,4 +1,4 @@
-use Rattle.std.proofs.Common.{ℕ, arith}
+use Rattle.std.proofs.Common.{arith}
 use Rattle.rv32_text.specs.Languages.{ended}
 use Rattle.rv32_text.proofs.Literals.{differs_behind}
 use Rattle.rv32_text.proofs.OperandReads.{differs_early}

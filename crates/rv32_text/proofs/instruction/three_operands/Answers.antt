@@ -1,6 +1,6 @@
-use Rattle.std.proofs.Common.{ℕ, List, ◌++◌, codes, refl}
+use Rattle.std.proofs.Common.{◌++◌, codes, refl}
 use Rattle.rv32_text.specs.declared.fields.Field.TheVariants as Fields
-use Rattle.rv32_text.specs.Languages.{rest, ended, Joined, OneOf}
+use Rattle.rv32_text.specs.Languages.{ended, Joined}
 use Rattle.rv32_text.specs.Fields.{Fits, write_field}
 use Rattle.rv32_text.specs.Shapes.{Operand}
 use Rattle.rv32_text.proofs.FieldReads.{field_letters}

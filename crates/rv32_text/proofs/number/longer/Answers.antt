@@ -1,4 +1,4 @@
-use Rattle.std.proofs.Common.{◌≡◌, ◌∙◌, ◌++◌, ◌∷◌, [], ℕ, List, ap, sym}
+use Rattle.std.proofs.Common.{◌∙◌, ◌++◌, ◌∷◌, [], ℕ, ap, sym}
 use Rattle.rv32_text.specs.Numbers.{digits_so_far}
 use Rattle.rv32_text.proofs.Decimals.{refuses_letter, refuses_zero, refuses_long}
 use Rattle.rv32_text.proofs.number.longer.Goals as goal

@@ -1,4 +1,4 @@
-use Rattle.std.proofs.Common.{◌∙◌, ◌+◌, ◌<◌, ◌^◌, ◌++◌, ◌∷◌, [], ℕ, Option, ap, sym, arith, decimal}
+use Rattle.std.proofs.Common.{◌∙◌, ◌+◌, ◌<◌, ◌^◌, ◌++◌, ◌∷◌, [], ℕ, Option, ap, sym, arith}
 use Rattle.rv32_text.specs.Numbers.{digits_so_far}
 use Rattle.std.proofs.lemmas.Fmt.{decimal_digit}
 use Rattle.rv32_text.proofs.Decimals.{digit_more}

@@ -1,5 +1,5 @@
-use Rattle.std.proofs.Common.{◌≡◌, ℤ, ℕ, ◌+◌, ◌-◌, ◌≤◌, List, [], ◌++◌, Option, Some, None, length, drop, arith, sym, ap, subst, ◌∙◌}
-use Rattle.std.proofs.lemmas.List.{length-drop, take_rest, append-nil}
+use Rattle.std.proofs.Common.{◌≡◌, ℤ, ℕ, ◌+◌, List, [], ◌++◌, Option, Some, drop, sym, subst, ◌∙◌}
+use Rattle.std.proofs.lemmas.List.{take_rest, append-nil}
 use mir.Val.{to_z, of_z}
 use mir.Syntax.{w64}
 use Rattle.rv32_text.specs.Languages.{rest, ended, Reads, Differs}

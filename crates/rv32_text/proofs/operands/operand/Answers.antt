@@ -1,4 +1,4 @@
-use Rattle.std.proofs.Common.{◌≡◌, ℤ, ℕ, ◌+◌, ◌-◌, ◌≤◌, List, ◌++◌, Option, Some, None, length, drop, arith, sym, ap, subst, ◌∙◌}
+use Rattle.std.proofs.Common.{◌≡◌, ℤ, ℕ, ◌+◌, ◌-◌, ◌≤◌, List, ◌++◌, Option, Some, length, drop, arith, sym, subst}
 use Rattle.std.proofs.lemmas.List.{length-drop, take_rest}
 use mir.Val.{to_z, of_z}
 use mir.Syntax.{w64}

@@ -1,5 +1,5 @@
-use Rattle.std.proofs.Common.{ℕ, List, ◌++◌, refl}
-use Rattle.rv32_text.specs.Languages.{rest, ended, OneOf}
+use Rattle.std.proofs.Common.{◌++◌, refl}
+use Rattle.rv32_text.specs.Languages.{ended, OneOf}
 use Rattle.rv32_text.specs.Fields.{Fits, write_field}
 use Rattle.rv32_text.proofs.FieldReads.{field_letters}
 use Rattle.rv32_text.proofs.OperandReads.{ends_itself, stops_at_first, stops_at_second}

@@ -1,4 +1,4 @@
-use Rattle.std.proofs.Common.{◌≡◌, ◌<◌, ◌≤◌, length, arith}
+use Rattle.std.proofs.Common.{arith}
 use Rattle.rv32_text.proofs.Literals.{stops_before_end}
 use Rattle.rv32_text.proofs.reader.read_nothing.Goals as goal
 

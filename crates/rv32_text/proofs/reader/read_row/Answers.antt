@@ -1,4 +1,4 @@
-use Rattle.std.proofs.Common.{◌≡◌, ℕ, ◌+◌, ◌-◌, List, [], Option, Some, None, drop, sym, subst}
+use Rattle.std.proofs.Common.{ℕ, ◌+◌, List, [], Option, drop, subst}
 use Rattle.std.proofs.lemmas.List.{take_rest}
 use Rattle.rv32_text.specs.Texts.{hex_text}
 use Rattle.rv32_text.specs.Languages.{ended, Reads, Differs}

@@ -1,4 +1,4 @@
-use Rattle.std.proofs.Common.{◌≡◌, ◌≤◌, ℕ, ◌+◌, ◌⊎◌, max, List, [], ◌∷◌, ◌++◌, take, get_or, sym, subst, arith}
+use Rattle.std.proofs.Common.{◌≡◌, ℕ, ◌+◌, ◌⊎◌, max, List, [], ◌∷◌, ◌++◌, take, get_or, sym, subst, arith}
 use Rattle.std.proofs.lemmas.List.{take_more}
 use Rattle.guest_model.specs.declared.instr.UpperOp.TheVariants.{Lui}
 use Rattle.rv32_text.specs.declared.mnemonic.Mnemonic.{Mnemonic}

@@ -1,4 +1,3 @@
-use Rattle.std.proofs.Common.{arith}
 use Rattle.std.proofs.Output.{has_written_of_eq}
 use Rattle.rv32_text.proofs.WordTexts.{word_digits}
 use Rattle.rv32_text.proofs.write.WordDigitsDisplay.fmt.Goals as goal
