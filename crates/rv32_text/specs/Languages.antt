@@ -1,4 +1,4 @@
--- Sets of texts, and where a reader that goes through a text letter by letter stops
+-- Sets of texts, and where a reader that goes through a text letter by letter stops. A letter is a byte.
 use Rattle.std.specs.Prelude.{◌≡◌, ◌≢◌, ℕ, ◌+◌, List, [], ◌∷◌, ◌++◌, length, drop, Option, MatchOption}
 
 -- A text with its end, a letter that no text has. So a text that is to end here is read as one letter more.

@@ -92,6 +92,7 @@ fn read_rest(mnemonic: Mnemonic, text: &[u8], from: usize) -> Result<u32, usize>
 /// The place at which the text goes wrong, where it is no word's text.
 pub fn read(text: &str) -> Result<u32, TextFault>
     ensures ok { IfOk result (λ w. text.now ≡ text_of w) }
+    ensures exact { (w : ℕ) → w < 2 ^ 32 → text.now ≡ text_of w → result ≡ Ok w }
     ensures err { IfErr result (λ fault. (w : ℕ) → w < 2 ^ 32 → text.now ≢ text_of w) }
     ensures place { IfErr result (λ fault. IsFaultPlace text.now fault.place) }
 {
