@@ -1,5 +1,5 @@
 -- One entry: where it isn't allowed, and what the board is where it is.
-use Rattle.std.proofs.Common.{◌≡◌, ◌≢◌, ℕ, zero, suc, ◌+◌, ◌*◌, ◌^◌, ◌<◌, ◌≤◌, Bool, true, false, not, ◌&&◌, if◌then◌else◌, nat_eq, nat_lt, List, [], ◌∷◌, ◌++◌, length, Option, Some, None, is_none, length-append, refl, sym, ap, ap₂, ◌∙◌, subst, eqb-true, arith}
+use Rattle.std.proofs.Common.{◌≡◌, ◌≢◌, ℕ, zero, suc, ◌+◌, ◌*◌, ◌^◌, ◌<◌, ◌≤◌, Bool, true, false, not, ◌&&◌, if◌then◌else◌, nat_eq, nat_lt, List, [], ◌∷◌, ◌++◌, length, Option, Some, None, is_some, is_none, length-append, refl, sym, ap, ap₂, ◌∙◌, subst, eqb-true, eq-eqb, arith, Vec, Global}
 use Rattle.std.proofs.lemmas.Option.{same_Some}
 use Rattle.std.proofs.lemmas.Bool.{and_parts, not-true}
 use Rattle.speculation.specs.declared.tracks.Name.{Name}
@@ -13,8 +13,8 @@ use Rattle.speculation.specs.Due.{Due, Finishing, Crossing, Judging, Forking}
 use Rattle.speculation.specs.Effects.{effect}
 use Rattle.speculation.specs.Events.{some_if, slice, back_of, gone_of, released_by, released_core, is_row_entry, is_entry_of, due_done, event}
 use Rattle.speculation.specs.Serial.{row_entry, entry_of, slice_of}
-use Rattle.speculation_law.proofs.Options.{some_if-some, is_none-none}
-use Rattle.speculation_law.proofs.Names.{name_eq-true}
+use Rattle.speculation_law.proofs.Options.{some_if-some, is_none-none, is_some-none}
+use Rattle.speculation_law.proofs.Names.{name_eq-true, name_eq-refl}
 use Rattle.speculation_law.proofs.Happens.{lent_core, back_core, event-happens}
 use Rattle.speculation_law.proofs.Prefixes.{released-happens}
 use Rattle.guest_model.specs.MachineState.{MachineState}
@@ -29,12 +29,14 @@ use Rattle.track_board.specs.declared.loan.Loan.{Loan}
 use Rattle.track_board.specs.declared.loan.Back.{Back as Answer}
 use Rattle.track_board.specs.declared.loan.Back.TheVariants.{Taken}
 use Rattle.track_board.specs.Value.{Posted, GuestCore, IsKnown, machine_of, start_state, core_of, posted}
-use Rattle.track_board.specs.Loans.{IsLoan, HasRun, may_lend, back_by, back_entry, IsReturned}
+use Rattle.track_board.specs.Loans.{IsLoan, HasRun, may_lend, LendNamedIs, back_by, back_entry, IsReturned}
 use Rattle.track_board.specs.Settles.{SettlesOne, due_of, verified_of, released_with}
 use Rattle.track_board.specs.Others.{IsOut}
+use Rattle.track_board.proofs.Lents.{All-at}
 use Rattle.track_board.proofs.Others.{run-home}
-use Rattle.journal_check.specs.Replays.{IsAsLent, AreOut, IsRefused, IsOfDue, lent_names, names_of, is_live, may_return}
-use Rattle.journal_check.proofs.Loans.{found-named}
+use Rattle.journal_check.specs.declared.replay.Replay.{Replay}
+use Rattle.journal_check.specs.Replays.{IsTakenOut, IsAsLent, AreOut, IsFollowing, Follows, FollowsIf, IsRefused, IsOfDue, same_event, names_of, is_live, may_return}
+use Rattle.journal_check.proofs.Loans.{found-named, KeepsLoans, out-kept, out-ended, out-added}
 use Rattle.journal_check.proofs.Staying.{starts-in_guest, sound-of, posted-event}
 
 -- ---- Lend
@@ -258,3 +260,149 @@ module _ (v : Posted) (n : Name) (loan : Loan) (known : IsKnown v) (may : MayEnd
         unequal-by : (t : Bool) → nat_eq told (slice (machine_of v) v.settings live_track.0) ≡ t → t ≡ false
         unequal-by true is = absurd (differ (count-slice ∙ sym (eqb-true told (slice (machine_of v) v.settings live_track.0) is)))
         unequal-by false is = refl
+
+-- ---- one entry of a due event
+
+pub same_event-true : (y x : Entry) → same_event y x ≡ true → y ≡ x
+same_event-true (Fork m) (Fork n) h = ap Fork (name_eq-true m n h)
+same_event-true (Cross m) (Cross n) h = ap Cross (name_eq-true m n h)
+same_event-true (Keep k) (Keep l) h = ap Keep (eqb-true k l h)
+same_event-true (Discard k) (Discard l) h = ap Discard (eqb-true k l h)
+same_event-true Finish Finish h = refl
+same_event-true _ _ h = absurd (cc)
+
+same_event-refl : (x : Entry) → IsOfDue x → same_event x x ≡ true
+same_event-refl (Fork n) h = name_eq-refl n
+same_event-refl (Cross n) h = name_eq-refl n
+same_event-refl (Keep k) h = eq-eqb k k refl
+same_event-refl (Discard k) h = eq-eqb k k refl
+same_event-refl Finish h = refl
+same_event-refl (Lend seat n) h = absurd h
+same_event-refl (Back n count) h = absurd h
+same_event-refl (Gone n) h = absurd h
+same_event-refl (Release bytes) h = absurd h
+same_event-refl (Halt seat) h = absurd h
+
+-- the entry releases nothing
+abbrev IsQuiet : Entry → Type 0
+IsQuiet (Release bytes) = ⊥
+IsQuiet _ = Unit {0}
+
+due-quiet : (x : Entry) → IsOfDue x → IsQuiet x
+due-quiet (Release bytes) h = h
+due-quiet x h = tt
+
+due-keeps : (x : Entry) → IsOfDue x → KeepsLoans x
+due-keeps (Lend seat n) h = h
+due-keeps (Back n count) h = h
+due-keeps (Gone n) h = h
+due-keeps x h = tt
+
+-- another entry than that of the event
+pub other_fork : (m : Name) (x : Entry) → ((n : Name) → x ≡ Fork n → ⊥) → false ≡ same_event (Fork m) x
+other_fork m (Fork n) h = absurd (h n refl)
+other_fork m _ h = refl
+
+pub other_cross : (m : Name) (x : Entry) → ((n : Name) → x ≡ Cross n → ⊥) → false ≡ same_event (Cross m) x
+other_cross m (Cross n) h = absurd (h n refl)
+other_cross m _ h = refl
+
+pub other_keep : (k : ℕ) (x : Entry) → ((l : ℕ) → x ≡ Keep l → ⊥) → false ≡ same_event (Keep k) x
+other_keep k (Keep l) h = absurd (h l refl)
+other_keep k _ h = refl
+
+pub other_discard : (k : ℕ) (x : Entry) → ((l : ℕ) → x ≡ Discard l → ⊥) → false ≡ same_event (Discard k) x
+other_discard k (Discard l) h = absurd (h l refl)
+other_discard k _ h = refl
+
+pub other_finish : (x : Entry) → (x ≡ Finish → ⊥) → false ≡ same_event Finish x
+other_finish Finish h = absurd (h refl)
+other_finish _ h = refl
+
+-- the entry of no event that may be due
+pub no_event : (y x : Entry) → ((n : Name) → y ≡ Fork n → ⊥) → ((n : Name) → y ≡ Cross n → ⊥) → ((l : ℕ) → y ≡ Keep l → ⊥) → ((l : ℕ) → y ≡ Discard l → ⊥) → (y ≡ Finish → ⊥) → false ≡ same_event y x
+no_event (Fork n) x fork cross keep discard finish = absurd (fork n refl)
+no_event (Cross n) x fork cross keep discard finish = absurd (cross n refl)
+no_event (Keep l) x fork cross keep discard finish = absurd (keep l refl)
+no_event (Discard l) x fork cross keep discard finish = absurd (discard l refl)
+no_event Finish x fork cross keep discard finish = absurd (finish refl)
+no_event _ x fork cross keep discard finish = refl
+
+-- ---- whole steps
+
+never : (x : Entry) → IsQuiet x → (count : ℕ) → x ≡ Release count → ⊥
+never x h count same = subst IsQuiet same h
+
+pub taken-as_lent : (v : Posted) (out left : List Loan) (n : Name) (loan : Loan) → AreOut v out → IsTakenOut out left n loan → IsAsLent v loan
+taken-as_lent v out left n loan h taken = All-at (IsAsLent v) out taken.place loan taken.at h.each
+
+pub none-out : (v : Posted) (n : Name) → is_some (find_loan n (core_of v).loans) ≡ false → find_loan n (core_of v).loans ≡ None
+none-out v n h = is_some-none (find_loan n (core_of v).loans) h
+
+some-of : (o : Option OpenLoan) → is_some o ≡ true → (l : OpenLoan) × (o ≡ Some l)
+some-of (Some l) h = (l, refl)
+some-of None h = absurd (cc)
+
+pub some-out : (v : Posted) (n : Name) → is_some (find_loan n (core_of v).loans) ≡ true → IsLoan v n
+some-out v n h = some-of (find_loan n (core_of v).loans) h
+
+pub gone-lent : (v : Posted) (n k : Name) → IsLoan v n → k ≡ n → IsLoan v k
+gone-lent v n k h same = subst (λ (m : Name). IsLoan v m) (sym same) h
+
+module _ (old : Replay) (w : Posted) (on : IsFollowing old) (after : IsKnown w) where
+  -- an entry that releases nothing
+  quietly : (x : Entry) (out : Vec Loan Global) → IsQuiet x → w ≡ posted old.board x → AreOut w out.items → Follows old (record { board = w; out = out; released = old.released }) x
+  quietly x out quiet is are_out = record {
+    board = is;
+    on = record { known = after; out = are_out; released = on.released ∙ released-kept old.board w x on.known after is (never x quiet) };
+  }
+
+  pub lend-follows : (more : Vec Loan Global) (seat : ℕ) (n : Name) (loan : Loan) (reserved : List Loan) → LendNamedIs old.board w seat n (Some loan) → reserved ≡ old.out.items → more.items ≡ reserved ++ (loan ∷ [])
+      → Follows old (record { board = w; out = more; released = old.released }) (Lend seat n)
+  lend-follows more seat n loan reserved lent same items =
+      quietly (Lend seat n) more tt (lent.0.entry ∙ ap (λ (k : Name). posted old.board (Lend seat k)) lent.1)
+      (out-added old.board w seat loan old.out.items more.items on.known after lent.0 (items ∙ ap (λ (ls : List Loan). ls ++ (loan ∷ [])) same) on.out)
+
+  pub back-follows : (left : Vec Loan Global) (n : Name) (ran told : ℕ) (loan : Loan) → IsTakenOut old.out.items left.items n loan → w ≡ posted old.board (Back n ran) → ran ≡ told
+      → Follows old (record { board = w; out = left; released = old.released }) (Back n told)
+  back-follows left n ran told loan taken is same =
+      let now : w ≡ posted old.board (Back n told) = is ∙ ap (λ (k : ℕ). posted old.board (Back n k)) same in
+      quietly (Back n told) left tt now (out-ended old.board w (Back n told) on.known after now old.out.items on.out n loan left.items refl taken)
+
+  pub gone-follows : (left : Vec Loan Global) (n : Name) (loan : Loan) → IsTakenOut old.out.items left.items n loan → w ≡ posted old.board (Gone loan.name)
+      → Follows old (record { board = w; out = left; released = old.released }) (Gone n)
+  gone-follows left n loan taken is =
+      let now : w ≡ posted old.board (Gone n) = is ∙ ap (λ (k : Name). posted old.board (Gone k)) taken.name in
+      quietly (Gone n) left tt now (out-ended old.board w (Gone n) on.known after now old.out.items on.out n loan left.items refl taken)
+
+  pub halt-follows : (seat : ℕ) → over (core_of old.board) ≡ false → w ≡ (if over (core_of old.board) then old.board else posted old.board (Halt seat))
+      → Follows old (record { board = w; out = old.out; released = old.released }) (Halt seat)
+  halt-follows seat running is =
+      let now : w ≡ posted old.board (Halt seat) = is ∙ ap (λ (t : Bool). if t then old.board else posted old.board (Halt seat)) running in
+      quietly (Halt seat) old.out tt now (out-kept old.board w (Halt seat) on.known after now old.out.items on.out tt)
+
+  pub release-follows : (bytes : ℕ) (marks : List Mark) → marks ≡ verified_of old.board → w ≡ released_with old.board marks → bytes ≡ length (verified_of old.board) → bytes ≢ 0
+      → Follows old (record { board = w; out = old.out; released = old.released + bytes }) (Release bytes)
+  release-follows bytes marks is now count some =
+      let entry = released-is old.board w marks bytes is now count some in
+      record {
+        board = entry;
+        on = record {
+          known = after;
+          out = out-kept old.board w (Release bytes) on.known after entry old.out.items on.out tt;
+          released = ap (λ (k : ℕ). k + bytes) on.released ∙ sym (released-grows old.board w bytes on.known after entry count);
+        };
+      }
+
+  -- the due event, by whether its entry is the one that is told
+  settled : (done x : Entry) (t : Bool) → IsOfDue x → SettlesOne old.board w (Some done) → same_event done x ≡ t → FollowsIf old (record { board = w; out = old.out; released = old.released }) x t
+  settled done x true of_due h is =
+      let now : w ≡ posted old.board x = h.0 ∙ ap (posted old.board) (same_event-true done x is) in
+      quietly x old.out (due-quiet x of_due) now (out-kept old.board w x on.known after now old.out.items on.out (due-keeps x of_due))
+  settled done x false of_due h is =
+      due-refused old.board x h.1.0 of_due h.1.1 (λ same. (
+      let one : done ≡ x = h.1.2 ∙ sym same in
+      let both : true ≡ false = sym (same_event-refl x of_due) ∙ ap (λ (y : Entry). same_event y x) (sym one) ∙ is in cc))
+
+  pub settle-follows : (done x : Entry) (t : Bool) → IsOfDue x → SettlesOne old.board w (Some done) → t ≡ same_event done x → FollowsIf old (record { board = w; out = old.out; released = old.released }) x t
+  settle-follows done x t of_due h is = settled done x t of_due h (sym is)

@@ -6,18 +6,19 @@ use Rattle.speculation.specs.declared.tracks.Name.{Name}
 use Rattle.speculation.specs.declared.tracks.OpenLoan.{OpenLoan}
 use Rattle.speculation.specs.declared.history.Entry.{Entry}
 use Rattle.speculation.specs.declared.history.Entry.TheVariants.{Lend, Back, Gone, Fork, Cross, Keep, Discard, Release, Finish, Halt}
-use Rattle.speculation.specs.Core.{name_eq, is_named, find_loan}
+use Rattle.speculation.specs.Core.{opening, name_eq, is_named, find_loan}
 use Rattle.speculation.specs.Effects.{drop_loans}
-use Rattle.speculation.specs.Events.{end_loan}
+use Rattle.speculation.specs.Events.{end_loan, core_run}
 use Rattle.speculation.specs.Loans.{loans_by}
 use Rattle.speculation_law.proofs.Names.{name_eq-refl}
 use Rattle.speculation_law.proofs.Fates.{event-loans}
 use Rattle.track_board.specs.declared.loan.Loan.{Loan}
-use Rattle.track_board.specs.Value.{Posted, IsKnown, machine_of, core_of, posted}
+use Rattle.track_board.specs.Value.{Posted, GuestCore, IsKnown, machine_of, start_state, core_of, posted}
 use Rattle.track_board.specs.Loans.{IsLoan, IsLent}
+use Rattle.track_board.proofs.Foundation.{core-legal}
 use Rattle.track_board.proofs.Lents.{All-remove}
 use Rattle.track_board.proofs.Others.{lent-out}
-use Rattle.journal_check.specs.Replays.{names_of, lent_names, without, IsTakenOut, IsAsLent, AreOut}
+use Rattle.journal_check.specs.Replays.{names_of, lent_names, without, IsTakenOut, IsAsLent, AreOut, IsFresh}
 use Rattle.journal_check.proofs.Staying.{posted-event, as_lent-stays}
 
 -- ---- names
@@ -130,3 +131,17 @@ out-added v w seat loan out more known after lent items h =
           (All-append (IsAsLent w) out (loan ∷ []) (each-stays v w (Lend seat loan.name) known after lent.entry out h)
           (All-one (IsAsLent w) loan (record { input = is_out.input; runs = is_out.runs; live = is_out.live })));
     }
+
+-- nothing is out of a board on which nothing has happened, and nothing was released
+fresh-core : (v : Posted) → v.entries ≡ [] → core_of v ≡ opening (start_state v)
+unfolding core_run
+fresh-core v h = core-legal v (opening (start_state v)) (ap (core_run (machine_of v) v.settings (Some (opening (start_state v)))) h)
+
+pub fresh-following : (v : Posted) (out : List Loan) → IsFresh v → out ≡ [] → AreOut v out × (0 ≡ length (core_of v).released)
+fresh-following v out h none = (
+  record {
+    names = ap names_of none ∙ sym (ap (λ (c : GuestCore). lent_names c.loans) (fresh-core v h.nothing));
+    each = subst (λ (ls : List Loan). All (IsAsLent v) ls) (sym none) (λ k d below. absurd (omega arith));
+  },
+  sym (ap (λ (c : GuestCore). length c.released) (fresh-core v h.nothing)),
+)

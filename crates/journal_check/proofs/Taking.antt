@@ -1,7 +1,8 @@
 -- The first loan of a name in a list of loans.
-use Rattle.std.proofs.Common.{◌≡◌, ℕ, zero, suc, ◌+◌, ◌<◌, ◌≤◌, Bool, true, false, not, if◌then◌else◌, cond, nat_lt, List, [], ◌∷◌, length, Option, Some, None, slice_get, refl, sym, ap, ◌∙◌, subst, ltb-true, arith}
+use Rattle.std.proofs.Common.{◌≡◌, ℕ, zero, suc, ◌+◌, ◌<◌, ◌≤◌, Bool, true, false, not, if◌then◌else◌, cond, nat_lt, List, [], ◌∷◌, length, Option, Some, None, slice_get, get_or, refl, sym, ap, ◌∙◌, subst, ltb-true, arith}
 use Rattle.std.specs.List.{position, position_or_len, remove}
 use Rattle.std.proofs.lemmas.Bool.{ltb-false, le-ltb}
+use Rattle.std.proofs.lemmas.Option.{same_Some}
 use Rattle.speculation.specs.declared.tracks.Name.{Name}
 use Rattle.speculation.specs.Core.{name_eq, is_named}
 use Rattle.speculation_law.proofs.Names.{name_eq-true}
@@ -89,3 +90,9 @@ module _ (n : Name) where
         names = ap names_of rest ∙ found.1.names;
         name = ap (λ (l : Loan). l.name) same ∙ sym (name_eq-true n found.0.name found.1.named);
       }
+
+-- what `remove` answers
+pub removed-at : (xs : List Loan) (i : ℕ) (loan : Loan) → loan ≡ get_or xs i loan → (l : Loan) → slice_get xs i ≡ Some l → loan ≡ l
+removed-at [] i loan is l h = absurd (cc)
+removed-at (x ∷ xs) zero loan is l h = is ∙ same_Some x l h
+removed-at (x ∷ xs) (suc i) loan is l h = removed-at xs i loan is l h

@@ -1,5 +1,5 @@
 -- A whole journal: what its lines so far are, and what comes of all of them.
-use Rattle.std.proofs.Common.{◌≡◌, ℕ, suc, ◌+◌, ◌*◌, ◌≤◌, List, [], ◌∷◌, ◌++◌, length, None, codes, decimal, Result, Ok, Err, IfOk, IfErr, length-append, refl, sym, ap, ◌∙◌, subst, append_assoc, append-nil, arith}
+use Rattle.std.proofs.Common.{◌≡◌, ℕ, suc, ◌+◌, ◌*◌, ◌≤◌, ◌<◌, ◌-◌, ◌^◌, ◌≢◌, ◌==◌, true, false, List, [], ◌∷◌, ◌++◌, length, None, codes, decimal, Result, Ok, Err, IfOk, IfErr, length-append, refl, sym, ap, ◌∙◌, subst, append_assoc, append-nil, eqb-true, arith}
 use Rattle.speculation.specs.declared.history.Entry.{Entry}
 use Rattle.speculation.specs.declared.history.Entry.TheVariants.{Lend, Back, Gone, Fork, Cross, Keep, Discard, Release, Finish, Halt}
 use Rattle.speculation.specs.Run.{Mark}
@@ -85,6 +85,22 @@ lines-bound p journal text v h =
     let parts = length-append (journal_text v.entries) text in
     let lines = text-length v.entries in
     omega arith
+
+pub count-more : (v w : Posted) (x : Entry) (lines : ℕ) → lines ≡ length v.entries → w ≡ posted v x → lines + 1 ≡ length w.entries
+count-more v w x lines count is =
+    ap (λ (n : ℕ). n + 1) count ∙ sym (length-append v.entries (x ∷ [])) ∙ sym (ap (λ (u : Posted). length u.entries) is)
+
+-- so their number fits
+pub few-lines : (p : Program) (journal text : List ℕ) (v : Posted) (lines : ℕ) → HasRead p journal text v → lines ≡ length v.entries → length journal < 2 ^ 64 → lines < 2 ^ 64 - 1
+few-lines p journal text v lines h count fits = (let bound = lines-bound p journal text v h in omega arith)
+
+pub some-behind : (text : List ℕ) → (length text == 0) ≡ false → text ≢ []
+some-behind [] h = absurd (cc)
+some-behind (x ∷ xs) h = λ same. cc
+
+pub none-behind : (text : List ℕ) → (length text == 0) ≡ true → text ≡ []
+none-behind [] h = refl
+none-behind (x ∷ xs) h = absurd (let none : length (x ∷ xs) ≡ 0 = eqb-true (length (x ∷ xs)) 0 h in omega arith)
 
 -- what follows a line is shorter
 pub behind-shorter : (text behind : List ℕ) (x : Entry) → BeginsWith text x behind → suc (length behind) ≤ length text

@@ -1,10 +1,10 @@
 -- A board that follows a journal, and the tracks that are out meanwhile
-use Rattle.std.specs.Prelude.{◌≡◌, ℕ, Bool, true, false, not, ◌&&◌, List, [], ◌∷◌, ◌++◌, ◌+◌, Option, Some, None, All, map, length, is_none, slice_get, if◌then◌else◌, Result, Ok, Err}
+use Rattle.std.specs.Prelude.{◌≡◌, ℕ, Bool, true, false, not, ◌&&◌, List, [], ◌∷◌, ◌++◌, ◌+◌, Option, Some, None, All, map, length, is_none, slice_get, nat_eq, if◌then◌else◌, Result, Ok, Err}
 use Rattle.std.specs.List.{remove}
 use Rattle.speculation.specs.declared.tracks.Name.{Name}
 use Rattle.speculation.specs.declared.tracks.OpenLoan.{OpenLoan}
 use Rattle.speculation.specs.declared.history.Entry.{Entry}
-use Rattle.speculation.specs.declared.history.Entry.TheVariants.{Lend, Back, Gone, Release, Halt}
+use Rattle.speculation.specs.declared.history.Entry.TheVariants.{Lend, Back, Gone, Fork, Cross, Keep, Discard, Release, Finish, Halt}
 use Rattle.speculation.specs.Core.{name_eq, over, find_loan}
 use Rattle.speculation.specs.Events.{event}
 use Rattle.track_state.specs.Views.{view_of}
@@ -101,6 +101,15 @@ IsOfDue (Gone n) = ⊥
 IsOfDue (Release bytes) = ⊥
 IsOfDue (Halt seat) = ⊥
 IsOfDue _ = Unit {0}
+
+-- these are one entry of an event that may be due
+abbrev pub same_event : Entry → Entry → Bool
+same_event (Fork m) (Fork n) = name_eq m n
+same_event (Cross m) (Cross n) = name_eq m n
+same_event (Keep k) (Keep l) = nat_eq k l
+same_event (Discard k) (Discard l) = nat_eq k l
+same_event Finish Finish = true
+same_event _ _ = false
 
 -- ---- lines
 

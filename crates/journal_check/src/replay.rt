@@ -4,7 +4,7 @@ ghost use Rattle.std.specs.Prelude.{◌≡◌, IfOk, IsTrue};
 ghost use Rattle.speculation.specs.declared.history.Entry.TheVariants as E;
 ghost use Rattle.std.specs.List.{position};
 ghost use Rattle.speculation.specs.Core.{is_named, name_eq};
-ghost use Rattle.journal_check.specs.Replays.{names_of, IsTakenOut};
+ghost use Rattle.journal_check.specs.Replays.{names_of, same_event, IsTakenOut};
 
 use basic_types::NoMemory;
 use speculation::OpenLoan;
@@ -131,7 +131,7 @@ impl Replay {
         ensures { IfOk result (FollowsIf self.old self.new entry) }
     {
         match self.board.settle_one()? {
-            Some(done) => Ok(done == entry),
+            Some(done) => Ok(is_same_event(done, entry)),
             None => Ok(false),
         }
     }
@@ -178,6 +178,35 @@ fn place_of(out: &[Loan], name: Name) -> Option<usize>
     ensures { result ≡ position (λ l. name_eq name l.name) out.now }
 {
     out.iter().position(|loan| is_same(name, loan.name()))
+}
+
+/// Whether these are one entry of an event that may be due.
+fn is_same_event(done: Entry, told: Entry) -> bool
+    ensures { result ≡ same_event done told }
+{
+    match done {
+        Entry::Fork { name } => match told {
+            Entry::Fork { name: other } => is_same(name, other),
+            _ => false,
+        },
+        Entry::Cross { name } => match told {
+            Entry::Cross { name: other } => is_same(name, other),
+            _ => false,
+        },
+        Entry::Keep { row } => match told {
+            Entry::Keep { row: other } => row == other,
+            _ => false,
+        },
+        Entry::Discard { row } => match told {
+            Entry::Discard { row: other } => row == other,
+            _ => false,
+        },
+        Entry::Finish => match told {
+            Entry::Finish => true,
+            _ => false,
+        },
+        _ => false,
+    }
 }
 
 /// Whether these names are one.
