@@ -13,9 +13,9 @@ use Rattle.speculation.specs.Loans.{loans_by}
 use Rattle.speculation_law.proofs.Names.{name_eq-refl}
 use Rattle.speculation_law.proofs.Fates.{event-loans}
 use Rattle.track_board.specs.declared.loan.Loan.{Loan}
-use Rattle.track_board.specs.Value.{Posted, GuestCore, IsKnown, machine_of, start_state, core_of, posted}
+use Rattle.track_board.specs.Value.{Posted, GuestCore, IsSettings, IsKnown, machine_of, start_state, core_of, posted}
 use Rattle.track_board.specs.Loans.{IsLoan, IsLent}
-use Rattle.track_board.proofs.Foundation.{core-legal}
+use Rattle.track_board.proofs.Foundation.{core-legal, legal-known}
 use Rattle.track_board.proofs.Lents.{All-remove}
 use Rattle.track_board.proofs.Others.{lent-out}
 use Rattle.journal_check.specs.Replays.{names_of, lent_names, without, IsTakenOut, IsAsLent, AreOut, IsFresh}
@@ -145,3 +145,10 @@ fresh-following v out h none = (
   },
   sym (ap (λ (c : GuestCore). length c.released) (fresh-core v h.nothing)),
 )
+
+pub fresh-board : (v : Posted) → IsSettings v.settings → v.entries ≡ [] → IsFresh v
+unfolding core_run
+fresh-board v limits h = record {
+  known = legal-known v (opening (start_state v)) limits (ap (core_run (machine_of v) v.settings (Some (opening (start_state v)))) h);
+  nothing = h;
+}

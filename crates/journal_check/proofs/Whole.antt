@@ -2,11 +2,13 @@
 use Rattle.std.proofs.Common.{◌≡◌, ℕ, suc, ◌+◌, ◌*◌, ◌≤◌, ◌<◌, ◌-◌, ◌^◌, ◌≢◌, ◌==◌, true, false, List, [], ◌∷◌, ◌++◌, length, None, codes, decimal, Result, Ok, Err, IfOk, IfErr, length-append, refl, sym, ap, ◌∙◌, subst, append_assoc, append-nil, eqb-true, arith}
 use Rattle.speculation.specs.declared.history.Entry.{Entry}
 use Rattle.speculation.specs.declared.history.Entry.TheVariants.{Lend, Back, Gone, Fork, Cross, Keep, Discard, Release, Finish, Halt}
+use Rattle.speculation.specs.declared.history.Settings.{Settings}
 use Rattle.speculation.specs.Run.{Mark}
 use Rattle.speculation.specs.Core.{verified}
 use Rattle.speculation.specs.Law.{IsComplete}
 use Rattle.speculation_law.proofs.Histories.{law-complete}
 use Rattle.region_ledger.specs.Ledger.{core_finished}
+use Rattle.elf32_loader.specs.declared.loaded.Loaded.{Loaded}
 use Rattle.board_events.specs.Texts.{name_text, text_of, EntryFits}
 use Rattle.track_board.specs.declared.kept.Program.{Program}
 use Rattle.track_board.specs.Value.{Posted, IsKnown, machine_of, start_state, core_of, posted}
@@ -20,7 +22,7 @@ use Rattle.journal_check.specs.declared.fault.CheckFault.TheVariants.{Journal, N
 use Rattle.journal_check.specs.declared.fault.JournalFault.{JournalFault}
 use Rattle.journal_check.specs.declared.replay.Replay.{Replay}
 use Rattle.journal_check.specs.Journals.{journal_text, AllFit, IsJournal, BeginsWith, IsNotAllowed, HasCause, IsFault}
-use Rattle.journal_check.specs.Checks.{IsLegal, IsChecked, HasFault}
+use Rattle.journal_check.specs.Checks.{program_by, IsLegal, IsChecked, HasFault}
 use Rattle.journal_check.specs.Replays.{IsFollowing, IsRefused, HasRead, Summarizes, TellsOutcome}
 use Rattle.journal_check.proofs.Staying.{exact-of}
 
@@ -135,6 +137,11 @@ pub told-fault : (p : Program) (journal text : List ℕ) (v : Posted) (lines : �
     → HasCause (program_of v) (core_of v) text cause → fault ≡ Journal (record { line = lines + 1; cause = cause }) → HasFault p journal fault
 told-fault p journal text v lines cause fault h known count is told =
     subst (HasFault p journal) (sym told) (line-fault p journal text v (record { line = lines + 1; cause = cause }) h known (ap (λ n. n + 1) count) is)
+
+-- ---- the program
+
+pub program-is : (b v : Posted) (settings : Settings) (loaded : Loaded) (input : List ℕ) → b ≡ v → v ≡ record { settings = settings; loaded = loaded; input = input; entries = [] } → program_of b ≡ program_by settings loaded input
+program-is b v settings loaded input same is = ap program_of (same ∙ is)
 
 -- ---- the end
 
