@@ -1,5 +1,5 @@
 -- One entry: where it isn't allowed, and what the board is where it is.
-use Rattle.std.proofs.Common.{◌≡◌, ◌≢◌, ℕ, zero, suc, ◌+◌, ◌*◌, ◌^◌, ◌<◌, ◌≤◌, Bool, true, false, not, ◌&&◌, if◌then◌else◌, nat_eq, nat_lt, List, [], ◌∷◌, ◌++◌, length, Option, Some, None, is_some, is_none, length-append, refl, sym, ap, ap₂, ◌∙◌, subst, eqb-true, eq-eqb, arith, Vec, Global}
+use Rattle.std.proofs.Common.{◌≡◌, ◌≢◌, ℕ, suc, ◌+◌, ◌^◌, ◌<◌, Bool, true, false, not, ◌&&◌, if◌then◌else◌, nat_eq, nat_lt, List, [], ◌∷◌, ◌++◌, length, Option, Some, None, is_some, is_none, length-append, refl, sym, ap, ap₂, ◌∙◌, subst, eqb-true, eq-eqb, arith, Vec, Global}
 use Rattle.std.proofs.lemmas.Option.{same_Some}
 use Rattle.std.proofs.lemmas.Bool.{and_parts, not-true}
 use Rattle.speculation.specs.declared.tracks.Name.{Name}
@@ -8,7 +8,7 @@ use Rattle.speculation.specs.declared.history.Entry.{Entry}
 use Rattle.speculation.specs.declared.history.Entry.TheVariants.{Lend, Back, Gone, Fork, Cross, Keep, Discard, Release, Finish, Halt}
 use Rattle.speculation.specs.Run.{Mark}
 use Rattle.speculation.specs.Verdicts.{is_kept}
-use Rattle.speculation.specs.Core.{Track as CoreTrack, over, lead_name, is_named, find_loan, find_track, front_home, verified, most_slice}
+use Rattle.speculation.specs.Core.{Track as CoreTrack, over, lead_name, is_named, find_loan, find_track, front_home, most_slice}
 use Rattle.speculation.specs.Due.{Due, Finishing, Crossing, Judging, Forking}
 use Rattle.speculation.specs.Effects.{effect}
 use Rattle.speculation.specs.Events.{some_if, slice, back_of, gone_of, released_by, released_core, is_row_entry, is_entry_of, due_done, event}
@@ -18,7 +18,6 @@ use Rattle.speculation_law.proofs.Names.{name_eq-true, name_eq-refl}
 use Rattle.speculation_law.proofs.Happens.{lent_core, back_core, event-happens}
 use Rattle.speculation_law.proofs.Prefixes.{released-happens}
 use Rattle.guest_model.specs.MachineState.{MachineState}
-use Rattle.guest_model.specs.Rv32.{rv32}
 use Rattle.guest_model.specs.declared.difference.Difference.{Difference}
 use Rattle.guest_model.specs.declared.end.End.{End}
 use Rattle.rv32_law.proofs.OutputBounds.{history-bound}
@@ -31,7 +30,6 @@ use Rattle.track_board.specs.declared.loan.Back.TheVariants.{Taken}
 use Rattle.track_board.specs.Value.{Posted, GuestCore, IsKnown, machine_of, start_state, core_of, posted}
 use Rattle.track_board.specs.Loans.{IsLoan, HasRun, may_lend, LendNamedIs, back_by, back_entry, IsReturned}
 use Rattle.track_board.specs.Settles.{SettlesOne, due_of, verified_of, released_with}
-use Rattle.track_board.specs.Others.{IsOut}
 use Rattle.track_board.proofs.Lents.{All-at}
 use Rattle.track_board.proofs.Others.{run-home}
 use Rattle.journal_check.specs.declared.replay.Replay.{Replay}

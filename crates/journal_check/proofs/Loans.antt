@@ -1,11 +1,10 @@
 -- The names of the tracks that are out, and how an entry changes the list of them.
-use Rattle.std.proofs.Common.{◌≡◌, ℕ, zero, suc, ◌<◌, Bool, true, false, if◌then◌else◌, List, [], ◌∷◌, ◌++◌, Option, Some, None, map, length, get_or, All, refl, sym, ap, ◌∙◌, subst, arith}
-use Rattle.std.specs.List.{remove}
+use Rattle.std.proofs.Common.{◌≡◌, ℕ, zero, suc, ◌<◌, Bool, true, false, if◌then◌else◌, List, [], ◌∷◌, ◌++◌, Some, None, length, get_or, All, refl, sym, ap, ◌∙◌, subst, arith}
 use Rattle.std.proofs.lemmas.List.Elements.{All-append}
 use Rattle.speculation.specs.declared.tracks.Name.{Name}
 use Rattle.speculation.specs.declared.tracks.OpenLoan.{OpenLoan}
 use Rattle.speculation.specs.declared.history.Entry.{Entry}
-use Rattle.speculation.specs.declared.history.Entry.TheVariants.{Lend, Back, Gone, Fork, Cross, Keep, Discard, Release, Finish, Halt}
+use Rattle.speculation.specs.declared.history.Entry.TheVariants.{Lend, Back, Gone, Discard}
 use Rattle.speculation.specs.Core.{opening, name_eq, is_named, find_loan}
 use Rattle.speculation.specs.Effects.{drop_loans}
 use Rattle.speculation.specs.Events.{end_loan, core_run}

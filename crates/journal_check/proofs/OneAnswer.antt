@@ -16,7 +16,7 @@ use Rattle.journal_check.specs.declared.fault.Cause.TheVariants.{Text, NotAllowe
 use Rattle.journal_check.specs.declared.fault.CheckFault.{CheckFault}
 use Rattle.journal_check.specs.declared.fault.CheckFault.TheVariants.{Journal, NoMemory}
 use Rattle.journal_check.specs.declared.fault.JournalFault.{JournalFault}
-use Rattle.journal_check.specs.Journals.{journal_text, AllFit, BeginsWith, IsNotAllowed, HasCause, IsFault}
+use Rattle.journal_check.specs.Journals.{journal_text, AllFit, BeginsWith, HasCause, IsFault}
 use Rattle.journal_check.specs.Checks.{IsLegal, IsChecked, HasFault, Tells}
 use Rattle.journal_check.proofs.OnLines.{begins-one}
 
@@ -118,8 +118,8 @@ module _ (p : Program) where
       let same = begins-one text x y (journal_text xs ++ h.behind) (journal_text ys ++ k.behind) (first-line from text x xs o h) (first-line from text y ys u k) in
       let too : event (rv32 p.input) p.settings from y ≡ Some next.0 = ap (event (rv32 p.input) p.settings from) (sym same.0) ∙ next.1 in
       let rest = one-stop xs ys next.0 (journal_text xs ++ h.behind) o u
-          (rest-stops from next.0 text (journal_text xs ++ h.behind) x xs o h next.1 refl)
-          (rest-stops from next.0 text (journal_text xs ++ h.behind) y ys u k too same.1) in
+      (rest-stops from next.0 text (journal_text xs ++ h.behind) x xs o h next.1 refl)
+      (rest-stops from next.0 text (journal_text xs ++ h.behind) y ys u k too same.1) in
       (ap₂ (λ (z : Entry) (zs : List Entry). z ∷ zs) same.0 rest.0, rest.1)
 
   abbrev start : GuestCore

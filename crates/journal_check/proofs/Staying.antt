@@ -1,13 +1,13 @@
 -- Where the board goes on by one entry, a track that is out stays as it was lent.
-use Rattle.std.proofs.Common.{◌≡◌, ◌≢◌, ℕ, ◌-◌, Bool, true, false, List, [], ◌∷◌, ◌++◌, Option, Some, None, length, refl, sym, ap, ◌∙◌, subst}
+use Rattle.std.proofs.Common.{◌≡◌, ℕ, ◌-◌, Bool, true, false, List, [], ◌∷◌, Option, Some, None, length, refl, sym, ap, ◌∙◌, subst}
 use Rattle.std.proofs.lemmas.Option.{same_Some}
 use Rattle.speculation.specs.declared.tracks.Name.{Name}
 use Rattle.speculation.specs.declared.tracks.OpenLoan.{OpenLoan}
 use Rattle.speculation.specs.declared.history.Entry.{Entry}
-use Rattle.speculation.specs.declared.history.Entry.TheVariants.{Lend, Back, Gone, Fork, Cross, Keep, Discard, Release, Finish, Halt}
+use Rattle.speculation.specs.declared.history.Entry.TheVariants.{Fork, Cross, Keep, Discard, Finish}
 use Rattle.speculation.specs.Run.{Mark}
 use Rattle.speculation.specs.Verdicts.{is_kept}
-use Rattle.speculation.specs.Core.{Track as CoreTrack, opening, name_eq, find_loan, find_track, front_home, verified}
+use Rattle.speculation.specs.Core.{opening, name_eq, find_loan, find_track, front_home, verified}
 use Rattle.speculation.specs.Due.{Due, Finishing, Crossing, Judging, Forking}
 use Rattle.speculation.specs.Events.{end_loan, gone_live, released_by, released_core, is_row_entry, is_entry_of, event, core_run}
 use Rattle.speculation.specs.Law.{Exact}
@@ -131,9 +131,11 @@ module _ (v w : Posted) (x : Entry) (known : IsKnown v) (after : IsKnown w) (is 
   as_lent-happens (Releases count entry some counted new) =
       at (released_core v.settings (core_of v)) new (λ l2 here undropped2.
       (let same : find_loan loan.name (core_of v).loans ≡ Some l2 =
-      sym (ap (find_loan loan.name) (released-loans (core_of v) (front_home (core_of v)) (v.settings.budget - (core_of v).base) (verified v.settings (core_of v)))) ∙ here in
-      (same, find_track-released (machine_of v) v.settings (core_of v) loan.name (front_home (core_of v)) (v.settings.budget - (core_of v).base) (verified v.settings (core_of v)) refl
-      (is_lent-found loan.name l2 (core_of v).loans same undropped2))))
+      sym (ap (find_loan loan.name) (released-loans (core_of v) (front_home (core_of v)) (v.settings.budget - (core_of v).base) (verified v.settings (core_of v)))) ∙ here in (
+        same,
+        find_track-released (machine_of v) v.settings (core_of v) loan.name (front_home (core_of v)) (v.settings.budget - (core_of v).base) (verified v.settings (core_of v)) refl
+            (is_lent-found loan.name l2 (core_of v).loans same undropped2),
+      )))
   as_lent-happens (Halts seat entry live new) = at (record (core_of v) { halted = true }) new (λ l2 here undropped2. (here, refl))
   as_lent-happens (Does d due_is entry new) = as_lent-unowned (due-owner v.entries (core_of v) d x entry)
 

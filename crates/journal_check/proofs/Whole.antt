@@ -1,10 +1,9 @@
 -- A whole journal: what its lines so far are, and what comes of all of them.
-use Rattle.std.proofs.Common.{◌≡◌, ℕ, suc, ◌+◌, ◌*◌, ◌≤◌, ◌<◌, ◌-◌, ◌^◌, ◌≢◌, ◌==◌, true, false, List, [], ◌∷◌, ◌++◌, length, None, codes, decimal, Result, Ok, Err, IfOk, IfErr, length-append, refl, sym, ap, ◌∙◌, subst, append_assoc, append-nil, eqb-true, arith}
+use Rattle.std.proofs.Common.{◌≡◌, ℕ, suc, ◌+◌, ◌*◌, ◌≤◌, ◌<◌, ◌-◌, ◌^◌, ◌≢◌, ◌==◌, true, false, List, [], ◌∷◌, ◌++◌, length, codes, decimal, Result, Ok, Err, IfOk, IfErr, length-append, refl, sym, ap, ◌∙◌, subst, append_assoc, append-nil, eqb-true, arith}
 use Rattle.speculation.specs.declared.history.Entry.{Entry}
 use Rattle.speculation.specs.declared.history.Entry.TheVariants.{Lend, Back, Gone, Fork, Cross, Keep, Discard, Release, Finish, Halt}
 use Rattle.speculation.specs.declared.history.Settings.{Settings}
 use Rattle.speculation.specs.Run.{Mark}
-use Rattle.speculation.specs.Core.{verified}
 use Rattle.speculation.specs.Law.{IsComplete}
 use Rattle.speculation_law.proofs.Histories.{law-complete}
 use Rattle.region_ledger.specs.Ledger.{core_finished}
@@ -16,7 +15,6 @@ use Rattle.track_board.specs.Owners.{program_of}
 use Rattle.track_board.specs.Settles.{verified_of}
 use Rattle.journal_check.specs.declared.checking.Checked.{Checked}
 use Rattle.journal_check.specs.declared.fault.Cause.{Cause}
-use Rattle.journal_check.specs.declared.fault.Cause.TheVariants.{Text, NotAllowed, Unfinished}
 use Rattle.journal_check.specs.declared.fault.CheckFault.{CheckFault}
 use Rattle.journal_check.specs.declared.fault.CheckFault.TheVariants.{Journal, NoMemory}
 use Rattle.journal_check.specs.declared.fault.JournalFault.{JournalFault}

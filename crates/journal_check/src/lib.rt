@@ -9,4 +9,3 @@ mod text;
 
 pub use checking::{Checked, check};
 pub use fault::{Cause, CheckFault, JournalFault};
-

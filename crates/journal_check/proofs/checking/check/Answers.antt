@@ -1,6 +1,5 @@
-use Rattle.std.proofs.Common.{◌≡◌, ℕ, ◌<◌, ◌^◌, List, [], length, Err, sym, ap, subst, arith}
+use Rattle.std.proofs.Common.{◌<◌, ◌^◌, [], length, Err, sym, ap, subst, arith}
 use Rattle.std.proofs.lemmas.Result.{err_from_is_err_and}
-use Rattle.speculation.specs.declared.history.Settings.{Settings}
 use Rattle.track_board.specs.declared.kept.Program.{Program}
 use Rattle.track_board.specs.Value.{Posted, IsSettings}
 use Rattle.journal_check.specs.Checks.{program_by, HasFault}

@@ -1,4 +1,4 @@
-use Rattle.std.proofs.Common.{◌≡◌, ℕ, ◌<◌, ◌^◌, List, [], length, sym, ap, ◌∙◌, subst, arith}
+use Rattle.std.proofs.Common.{ℕ, ◌<◌, ◌^◌, List, length, sym, ap, ◌∙◌, subst, arith}
 use Rattle.track_board.specs.Owners.{program_of}
 use Rattle.journal_check.specs.declared.fault.Cause.TheVariants as Causes
 use Rattle.journal_check.specs.Replays.{Follows, FollowsIf, IsRefused, HasRead}
@@ -60,8 +60,9 @@ loop-rest-preserved c =
     }
 
 pub returns : goal.returns
-returns c =
-    (c.loop-rest.invariant.on,
-    subst (λ (bs : List ℕ). HasRead (program_of c.args.replay.now.board) c.args.journal.now bs c.loop-rest.replay.board) (none-behind c.loop-rest.rest.now (sym c.is_empty.ensures ∙ c.loop-rest-test.false))
-    c.loop-rest.invariant.read,
-    c.loop-rest.invariant.lines)
+returns c = (
+  c.loop-rest.invariant.on,
+  subst (λ (bs : List ℕ). HasRead (program_of c.args.replay.now.board) c.args.journal.now bs c.loop-rest.replay.board) (none-behind c.loop-rest.rest.now (sym c.is_empty.ensures ∙ c.loop-rest-test.false))
+      c.loop-rest.invariant.read,
+  c.loop-rest.invariant.lines,
+)

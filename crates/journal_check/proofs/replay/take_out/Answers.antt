@@ -1,4 +1,4 @@
-use Rattle.std.proofs.Common.{◌≡◌, List, Bool, true, false, Some, None, sym, ap, ◌∙◌}
+use Rattle.std.proofs.Common.{◌≡◌, true, false, Some, None, sym, ap, ◌∙◌}
 use Rattle.std.specs.List.{position}
 use Rattle.speculation.specs.Core.{name_eq}
 use Rattle.track_board.specs.declared.loan.Loan.{Loan}

@@ -1,4 +1,4 @@
-use Rattle.std.proofs.Common.{List, ℕ, subst}
+use Rattle.std.proofs.Common.{subst}
 use Rattle.std.specs.Str.{IsUtf8}
 use Rattle.journal_check.proofs.OnLines.{text-utf8}
 use Rattle.journal_check.proofs.text.entry_of.Goals as goal

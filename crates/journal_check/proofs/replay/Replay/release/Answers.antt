@@ -6,9 +6,9 @@ use Rattle.journal_check.proofs.replay.Replay.release.Goals.{then-bytes-eq0-via-
 pub returns-then-bytes-eq0 : goal.returns-then-bytes-eq0
 returns-then-bytes-eq0 c =
     elim c.then-bytes-eq0.branch [
-      then-bytes-eq0-via-then-bytes-eq0 w ↦ nothing-refused c.args.self.now.board c.args.bytes w.if-bytes-eq0.true
-    | then-bytes-eq0-via-else-bytes-eq0+then-bytes-verified w ↦
-        release-refused c.args.self.now.board c.args.bytes (λ same. w.if-bytes-verified.true (same ∙ sym w.verified.ensures.bytes))
+      | then-bytes-eq0-via-then-bytes-eq0 w ↦ nothing-refused c.args.self.now.board c.args.bytes w.if-bytes-eq0.true
+      | then-bytes-eq0-via-else-bytes-eq0+then-bytes-verified w ↦
+          release-refused c.args.self.now.board c.args.bytes (λ same. w.if-bytes-verified.true (same ∙ sym w.verified.ensures.bytes))
     ]
 
 pub overflow_add-self : goal.overflow_add-self
