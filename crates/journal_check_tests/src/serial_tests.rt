@@ -106,13 +106,22 @@ fn refuses_changed_journals(rt: HostRuntime) -> Result<(), Fail> {
         };
         // The entries up to this one, changed so.
         let mut table = Vec::new(rt.alloc());
-        table.push((vec![in rt.alloc(); entry, entry]?, JournalFault { line: place as u64 + 2, ..here }))?;
+        table.push((
+            vec![in rt.alloc(); entry, entry]?,
+            JournalFault {
+                line: place as u64 + 2,
+                ..here
+            },
+        ))?;
         if let Some(changed) = off_by_one(entry) {
             table.push((vec![in rt.alloc(); changed]?, here))?;
         }
         if matches!(entry, Entry::Lend { .. }) {
             // The next entry is that the track came home.
-            table.push((Vec::from_slice(rt.alloc(), &run.entries[place + 1..])?, here))?;
+            table.push((
+                Vec::from_slice(rt.alloc(), &run.entries[place + 1..])?,
+                here,
+            ))?;
         }
         for (changed, fault) in &table {
             let mut journal = text_of(rt.alloc(), &run.entries[..place])?;

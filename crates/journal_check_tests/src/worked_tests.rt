@@ -10,7 +10,8 @@ use rv32_asm::small_image;
 use std::test::Fail;
 
 /// What the sum's serial run prints.
-const SERIAL: &str = "lend 0 0.0.f\nback 0.0.f 1\nfork 0.1.f\nlend 0 0.1.n\nback 0.1.n 36\nlend 0 0.1.f\nback 0.1.f 5\ncross 0.1.f\nkeep 0\nlend 0 0.1.f\nback 0.1.f 3\nfinish\n";
+const SERIAL: &str =
+    "lend 0 0.0.f\nback 0.0.f 1\nfork 0.1.f\nlend 0 0.1.n\nback 0.1.n 36\nlend 0 0.1.f\nback 0.1.f 5\ncross 0.1.f\nkeep 0\nlend 0 0.1.f\nback 0.1.f 3\nfinish\n";
 
 /// The sum's one region, which is kept.
 const KEPT: Row = Row {
@@ -36,11 +37,20 @@ fn takes_every_order(rt: HostRuntime) -> Result<(), Fail> {
     let table = [
         (SERIAL, 12),
         // The lead before the original.
-        ("lend 0 0.0.f\nback 0.0.f 1\nfork 0.1.f\nlend 0 0.1.f\nback 0.1.f 5\ncross 0.1.f\nlend 0 0.1.n\nback 0.1.n 36\nkeep 0\nlend 0 0.1.f\nback 0.1.f 3\nfinish\n", 12),
+        (
+            "lend 0 0.0.f\nback 0.0.f 1\nfork 0.1.f\nlend 0 0.1.f\nback 0.1.f 5\ncross 0.1.f\nlend 0 0.1.n\nback 0.1.n 36\nkeep 0\nlend 0 0.1.f\nback 0.1.f 3\nfinish\n",
+            12,
+        ),
         // One seat has both, and each comes home while the crossing is due.
-        ("lend 0 0.0.f\nback 0.0.f 1\nfork 0.1.f\nlend 7 0.1.n\nlend 7 0.1.f\nback 0.1.f 5\nback 0.1.n 36\ncross 0.1.f\nkeep 0\nlend 0 0.1.f\nback 0.1.f 3\nfinish\n", 12),
+        (
+            "lend 0 0.0.f\nback 0.0.f 1\nfork 0.1.f\nlend 7 0.1.n\nlend 7 0.1.f\nback 0.1.f 5\nback 0.1.n 36\ncross 0.1.f\nkeep 0\nlend 0 0.1.f\nback 0.1.f 3\nfinish\n",
+            12,
+        ),
         // The original goes out while the crossing is due, and the lead while the keep is.
-        ("lend 18446744073709551615 0.0.f\nback 0.0.f 1\nfork 0.1.f\nlend 1 0.1.f\nback 0.1.f 5\nlend 1 0.1.n\ncross 0.1.f\nback 0.1.n 36\nlend 1 0.1.f\nkeep 0\nback 0.1.f 3\nfinish\n", 12),
+        (
+            "lend 18446744073709551615 0.0.f\nback 0.0.f 1\nfork 0.1.f\nlend 1 0.1.f\nback 0.1.f 5\nlend 1 0.1.n\ncross 0.1.f\nback 0.1.n 36\nlend 1 0.1.f\nkeep 0\nback 0.1.f 3\nfinish\n",
+            12,
+        ),
     ];
     for (journal, entries) in table {
         let Ok(checked) = check_journal(rt.alloc(), &loaded, 4, journal.as_bytes())? else {
@@ -48,7 +58,10 @@ fn takes_every_order(rt: HostRuntime) -> Result<(), Fail> {
         };
         assert_eq!(rt; checked.finished, END);
         assert_eq!(rt; checked.rows.as_slice(), [KEPT].as_slice());
-        assert_eq!(rt; (checked.entries, checked.released, checked.left), (entries, 0, 0));
+        assert_eq!(rt;
+            (checked.entries, checked.released, checked.left),
+            (entries, 0, 0)
+        );
     }
     Ok(())
 }
@@ -138,7 +151,8 @@ fn refuses_the_first_bad_line(rt: HostRuntime) -> Result<(), Fail> {
 fn drops_a_track_that_is_out(rt: HostRuntime) -> Result<(), Fail> {
     let image = small_image(rt.alloc(), &WRONG_SUM)?;
     let loaded = load(rt.alloc(), image.as_slice())?;
-    let before = "lend 0 0.0.f\nback 0.0.f 1\nfork 0.1.f\nlend 0 0.1.n\nback 0.1.n 36\nlend 0 0.1.f\nback 0.1.f 5\ncross 0.1.f\nlend 0 0.1.f\ndiscard 0\n";
+    let before =
+        "lend 0 0.0.f\nback 0.0.f 1\nfork 0.1.f\nlend 0 0.1.n\nback 0.1.n 36\nlend 0 0.1.f\nback 0.1.f 5\ncross 0.1.f\nlend 0 0.1.f\ndiscard 0\n";
     let fault = JournalFault {
         line: 11,
         cause: Cause::NotAllowed,
@@ -147,7 +161,10 @@ fn drops_a_track_that_is_out(rt: HostRuntime) -> Result<(), Fail> {
         ("gone 0.1.f\nlend 0 1.0.f\nback 1.0.f 3\nfinish\n", Ok(14)),
         ("lend 0 1.0.f\nback 1.0.f 3\nfinish\ngone 0.1.f\n", Ok(14)),
         ("lend 0 1.0.f\nback 1.0.f 3\nfinish\n", Ok(13)),
-        ("back 0.1.f 3\nlend 0 1.0.f\nback 1.0.f 3\nfinish\n", Err(fault)),
+        (
+            "back 0.1.f 3\nlend 0 1.0.f\nback 1.0.f 3\nfinish\n",
+            Err(fault),
+        ),
     ];
     for (behind, expected) in table {
         let mut journal = String::from_str(rt.alloc(), before)?;
@@ -157,7 +174,10 @@ fn drops_a_track_that_is_out(rt: HostRuntime) -> Result<(), Fail> {
                 assert_eq!(rt; Ok(checked.entries), expected);
                 assert_eq!(rt; checked.finished, END);
                 let verdict = Verdict::Differs(Difference::Register(10));
-                assert_eq!(rt; checked.rows.as_slice(), [Row { verdict, ..KEPT }].as_slice());
+                assert_eq!(rt;
+                    checked.rows.as_slice(),
+                    [Row { verdict, ..KEPT }].as_slice()
+                );
             }
             Err(fault) => assert_eq!(rt; Err(fault), expected),
         }
