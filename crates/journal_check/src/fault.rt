@@ -19,6 +19,11 @@ pub enum Cause {
 }
 
 impl fmt::Display for Cause {
+    ghost use Rattle.std.specs.Prelude.{Some};
+    ghost use Rattle.journal_check.specs.FaultTexts.{cause_text};
+
+    ghost output = { λ cause. Some (cause_text cause) };
+
     fn fmt<W: fmt::Write>(&self, f: &mut fmt::Formatter<W>) -> fmt::Result {
         match self {
             Cause::Text => write!(f, "text"),
@@ -37,6 +42,11 @@ pub struct JournalFault {
 }
 
 impl fmt::Display for JournalFault {
+    ghost use Rattle.std.specs.Prelude.{Some};
+    ghost use Rattle.journal_check.specs.FaultTexts.{fault_text};
+
+    ghost output = { λ fault. Some (fault_text fault) };
+
     fn fmt<W: fmt::Write>(&self, f: &mut fmt::Formatter<W>) -> fmt::Result {
         let line = self.line;
         let cause = self.cause;
@@ -54,6 +64,11 @@ pub enum CheckFault {
 }
 
 impl fmt::Display for CheckFault {
+    ghost use Rattle.std.specs.Prelude.{Some};
+    ghost use Rattle.journal_check.specs.FaultTexts.{check_fault_text};
+
+    ghost output = { λ fault. Some (check_fault_text fault) };
+
     fn fmt<W: fmt::Write>(&self, f: &mut fmt::Formatter<W>) -> fmt::Result {
         match self {
             CheckFault::Journal(fault) => write!(f, "bad journal: {fault}"),
