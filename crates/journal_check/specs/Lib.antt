@@ -1,0 +1,4 @@
+pub mod Checks
+pub mod FaultTexts
+pub mod Journals
+pub mod Replays
