@@ -149,16 +149,15 @@ fn shows_a_long_program(rt: HostRuntime) -> Result<(), Fail> {
     Ok(())
 }
 
-/// At each count to its end and behind it, up and down again. The store into the program's own code is one of its
+/// At each count to its end and behind it, and then at some before. The store into the program's own code is one of its
 /// instructions, so that what it changes must not be seen before.
 #[test]
 fn shows_a_program_with_calls(rt: HostRuntime) -> Result<(), Fail> {
     let image = small_image(rt.alloc(), &CALLS)?;
     let counts = [
-        0, 1, 2, 3, 4, 5, 6, 7, 8, 9, 10, 11, 12, 13, 14, 15, 16, 17, 18, 19, 20, 60, 18, 17, 16, 15,
-        14, 13, 12, 11, 10, 9, 8, 7, 6, 5, 4, 3, 2, 1, 0,
+        0, 1, 2, 3, 4, 5, 6, 7, 8, 9, 10, 11, 12, 13, 14, 15, 16, 17, 18, 19, 20, 60, 17, 15, 14, 7, 0,
     ];
-    for every in [1, 3, 19, 60] {
+    for every in [1, 3, 19] {
         let wrong = first_wrong(rt.alloc(), &image, b"abc", every, 60, &counts)?;
         assert_eq!(rt; wrong, None, "every {every}");
     }
