@@ -1,0 +1,3 @@
+pub mod OnPoints
+pub mod OnSaved
+pub mod OnViews
