@@ -118,5 +118,8 @@ count-by input t every rest (Some e) is ended = elim (cases_lt rest every) [
 
 pub count-upto : (input : List ℕ) (t : MachineState) (every rest : ℕ) → (every ≤ rest → (run (rv32 input) t every).end ≢ None) → (run (rv32 input) t rest).count ≤ every
 count-upto input t every rest ended =
-    omega (arith, count-alone (rv32 input) t rest,
-    count-by input t every rest (go (rv32 input) (fresh t) every).end refl (λ more none. ended more (end-alone (rv32 input) t every ∙ none)))
+    omega (
+      arith,
+      count-alone (rv32 input) t rest,
+      count-by input t every rest (go (rv32 input) (fresh t) every).end refl (λ more none. ended more (end-alone (rv32 input) t every ∙ none)),
+    )

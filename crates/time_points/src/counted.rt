@@ -15,11 +15,7 @@ use rv32_step::{Stepped, step};
 /// `input` is the whole input of the guest, of which `state.place` bytes were read. After `Ends` and `NoMemory` the state
 /// is as before.
 #[inline]
-pub fn counted_step<L>(
-    state: &mut State<PagedImage>,
-    input: &[u8],
-    steps: &mut Steps<L>,
-) -> Stepped
+pub fn counted_step<L>(state: &mut State<PagedImage>, input: &[u8], steps: &mut Steps<L>) -> Stepped
     requires place { state.old.place ≤ length input.now }
     requires room { steps.old < 2 ^ 64 - 1 }
     ensures means { let old = flat_state state.old in DoesStep true (step false input.now old) old (flat_state state.new) result }

@@ -121,13 +121,7 @@ fn first_wrong(
     requires few { greatest ≤ 64 * every }
 {
     let loaded = load(alloc, image.as_slice())?;
-    let mut points = Points::build(
-        alloc,
-        paged_start(alloc, &loaded)?,
-        input,
-        every,
-        greatest,
-    )?;
+    let mut points = Points::build(alloc, paged_start(alloc, &loaded)?, input, every, greatest)?;
     for count in counts {
         let count = (*count).min(greatest);
         let view = points.at(count, input, &mut Steps::<u8>::new())?;
@@ -155,7 +149,8 @@ fn shows_a_long_program(rt: HostRuntime) -> Result<(), Fail> {
 fn shows_a_program_with_calls(rt: HostRuntime) -> Result<(), Fail> {
     let image = small_image(rt.alloc(), &CALLS)?;
     let counts = [
-        0, 1, 2, 3, 4, 5, 6, 7, 8, 9, 10, 11, 12, 13, 14, 15, 16, 17, 18, 19, 20, 60, 17, 15, 14, 7, 0,
+        0, 1, 2, 3, 4, 5, 6, 7, 8, 9, 10, 11, 12, 13, 14, 15, 16, 17, 18, 19, 20, 60, 17, 15, 14,
+        7, 0,
     ];
     for every in [1, 3, 19] {
         let wrong = first_wrong(rt.alloc(), &image, b"abc", every, 60, &counts)?;

@@ -11,8 +11,11 @@ use Rattle.time_points.proofs.points.Points.at.Goals as goal
 pub point_before-point-requires : goal.point_before-point-requires
 unfolding view_of
 point_before-point-requires g c =
-    omega (arith, length-map c.args.self.now.saved.items flat_state,
-    saved-some c.args.input.now (flat_state c.args.self.now.start.value) c.args.self.now.every c.args.self.now.greatest (map flat_state c.args.self.now.saved.items) c.requires.points)
+    omega (
+      arith,
+      length-map c.args.self.now.saved.items flat_state,
+      saved-some c.args.input.now (flat_state c.args.self.now.start.value) c.args.self.now.every c.args.self.now.greatest (map flat_state c.args.self.now.saved.items) c.requires.points,
+    )
 
 pub returns-in_err-saved-clause-same : goal.returns-in_err-saved-clause-same
 unfolding view_of
