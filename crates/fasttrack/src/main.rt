@@ -1,31 +1,31 @@
 //! `fasttrack`: runs RV32IM programs.
 #![tactic(auto)]
 
-use fasttrack_program::{Histories, plain_main, status};
+use fasttrack_program::{Histories, fasttrack_main, status};
 use host_io::{RealFiles, RealInput, RealNotes, RealOutput};
 use std::io::{self, ErrorKind};
 use std::process::ExitCode;
+use worker_gate::Open;
 
 /// The status where the words can't be had from the system, which no answer has.
 const NO_WORDS: u8 = 254;
-
-/// The status where the words ask for workers, which no answer has. It doesn't come while `--workers` takes 0 alone.
-const WORKERS: u8 = 253;
 
 fn main(rt: HostRuntime) -> ExitCode {
     let Ok(words) = words_of(&rt) else {
         return ExitCode::from(NO_WORDS);
     };
-    let answer = plain_main(
+    let answer = fasttrack_main(
+        &rt,
         rt.alloc(),
         words.as_slice(),
         &mut RealFiles::new(&rt),
         &mut RealInput::new(&rt),
         &mut RealOutput::new(&rt),
         &mut RealNotes::new(&rt),
+        &Open,
         &mut Histories::new(rt.alloc()),
     );
-    ExitCode::from(answer.map_or(WORKERS, |answer| status(&answer)))
+    ExitCode::from(status(&answer))
 }
 
 /// The words behind the program's own name. A word that isn't UTF-8 makes them no call of the program, as no words do.

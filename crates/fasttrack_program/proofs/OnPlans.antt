@@ -12,10 +12,15 @@ use Rattle.program_words.specs.declared.request.Task.TheVariants.{Alone, Run, Tr
 use Rattle.fasttrack_program.specs.declared.served.Served.{Served}
 use Rattle.fasttrack_program.specs.declared.answer.Answer.{Answer}
 use Rattle.fasttrack_program.specs.declared.answer.Answer.TheVariants.{Usage}
-use Rattle.fasttrack_program.specs.Plan.{Plan, Refused, Does, Found, options_of, is_file, reads_input, image_in, image_limit, image_for, input_in, input_limit, plan_of, bench_plan, plan}
+use Rattle.rv32_asm.specs.Generated.{generated}
+use Rattle.fasttrack_program.specs.declared.guest.LoadedGuest.{LoadedGuest}
+use Rattle.fasttrack_program.specs.declared.options.Options.{Options}
+use Rattle.fasttrack_program.specs.Finding.{FindsGuest}
+use Rattle.fasttrack_program.specs.Plan.{Plan, Refused, Does, Found, options_of, is_file, reads_input, image_in, image_limit, image_for, input_in, input_limit, plan_of, unless_bad, bench_regions, bench_plan, plan}
 use Rattle.fasttrack_program.specs.Promise.{Guest, FromFile, ForBench, promise_of}
 use Rattle.fasttrack_program.specs.Reading.{Agrees, Known, AgreesWith, IsUnread, Reads}
 use Rattle.fasttrack_program.specs.Serving.{plainly, KeepsPromise, Keeps, IsServed}
+use Rattle.fasttrack_program.specs.TopCall.{IsRequest}
 use Rattle.fasttrack_program.specs.Tracks.{given_of}
 use Rattle.fasttrack_program.proofs.OnBenches.{bench-loads}
 
@@ -104,35 +109,60 @@ served-unread r known s a (inl e) = record { found = some_found known; agrees = 
 served-unread r known s a (inr e) = record { found = some_found known; agrees = some_agrees known; keeps = inl (inr (ap plainly e), refl) }
 
 -- the words ask for nothing
-pub served-usage : (r : Option Request) (known : Known) (s : Sinks) → r ≡ None → IsServed r known s s (plainly Usage)
+served-usage : (r : Option Request) (known : Known) (s : Sinks) → r ≡ None → IsServed r known s s (plainly Usage)
 served-usage r known s e =
     served-plan r known (some_found known) (Refused Usage) s s (plainly Usage) (some_agrees known) (ap (λ x. plan x (some_found known)) e) (refl, refl)
 
+-- the words ask for nothing, or memory ran out before they were read
+pub served-refused : (r : Option Request) (known : Known) (s : Sinks) (a : Answer) → IsRequest r (Err a) → IsServed r known s s (plainly a)
+served-refused r known s a (inl h) = subst (λ x. IsServed r known s s (plainly x)) (sym h.0) (served-usage r known s h.1)
+served-refused r known s a (inr e) = served-unread r known s a (inr e)
+
+-- ---- what is found for a request
+
+-- a guest whose task was done by the options of the request
+pub served-guest : (r : Request) (o : Options) (known : Known) (guest : LoadedGuest) (old new : Sinks) (v : Served) → o ≡ options_of r → FindsGuest r known (Ok guest)
+    → KeepsPromise (promise_of r.task) (given_of guest.loaded guest.input o) old new v → IsServed (Some r) known old new v
+served-guest r o known guest old new v is h kept =
+    served-plan (Some r) known h.0 (Does (promise_of r.task) (given_of guest.loaded guest.input (options_of r))) old new v h.1 h.2
+    (subst (λ x. KeepsPromise (promise_of r.task) (given_of guest.loaded guest.input x) old new v) is kept)
+
+-- none was found
+pub served-none : (r : Request) (known : Known) (a : Answer) (s : Sinks) → FindsGuest r known (Err a) → IsServed (Some r) known s s (plainly a)
+served-none r known a s (inl unread) = served-unread (Some r) known s a unread
+served-none r known a s (inr h) = served-plan (Some r) known h.0 (Refused a) s s (plainly a) h.1 h.2 (refl, refl)
+
 module _ (r : Request) (known : Known) (reads : IsTrue (is_file (promise_of r.task).guest)) where
   -- the image was refused, or could not be read
-  pub served-image : (s : Sinks) (a : Answer) → Reads {A = Image} image_in known.file (Err a) → IsServed (Some r) known s s (plainly a)
-  served-image s a (inl unread) = served-unread (Some r) known s a unread
-  served-image s a (inr h) =
-      served-plan (Some r) known (record { file = h.0; input = some_bytes known.input }) (Refused a) s s (plainly a)
-      (record { file = h.1; input = some_agree known.input })
-      (plan-is r h.0 (some_bytes known.input) (Err a) (input_in (not r.no_input) (some_bytes known.input)) reads h.2 refl) (refl, refl)
+  pub finds-no_image : (a : Answer) → Reads {A = Image} image_in known.file (Err a) → FindsGuest r known (Err a)
+  finds-no_image a (inl unread) = inl unread
+  finds-no_image a (inr h) = inr (
+    record { file = h.0; input = some_bytes known.input },
+    record { file = h.1; input = some_agree known.input },
+    plan-is r h.0 (some_bytes known.input) (Err a) (input_in (not r.no_input) (some_bytes known.input)) reads h.2 refl,
+  )
 
   module _ (l : Loaded) (file : Reads {A = Image} image_in known.file (Ok (image_of_loaded l))) where
     -- the input was
-    pub served-input : (s : Sinks) (a : Answer) → Reads {A = List ℕ} (input_in (not r.no_input)) known.input (Err a) → IsServed (Some r) known s s (plainly a)
-    served-input s a (inl unread) = served-unread (Some r) known s a unread
-    served-input s a (inr h) =
-        served-plan (Some r) known (record { file = file.0; input = h.0 }) (Refused a) s s (plainly a) (record { file = file.1; input = h.1 })
-        (plan-is r file.0 h.0 (Ok (image_of_loaded l)) (Err a) reads file.2 h.2) (refl, refl)
+    pub finds-no_input : (a : Answer) → Reads {A = List ℕ} (input_in (not r.no_input)) known.input (Err a) → FindsGuest r known (Err a)
+    finds-no_input a (inl unread) = inl unread
+    finds-no_input a (inr h) = inr (
+      record { file = file.0; input = h.0 },
+      record { file = file.1; input = h.1 },
+      plan-is r file.0 h.0 (Ok (image_of_loaded l)) (Err a) reads file.2 h.2,
+    )
 
-    -- the task was done
-    pub served-task : (input : List ℕ) (old new : Sinks) (v : Served) → Reads (input_in (not r.no_input)) known.input (Ok input)
-        → KeepsPromise (promise_of r.task) (given_of l input (options_of r)) old new v → IsServed (Some r) known old new v
-    served-task input old new v h kept =
-        served-plan (Some r) known (record { file = file.0; input = h.0 }) (Does (promise_of r.task) (given_of l input (options_of r))) old new v (record { file = file.1; input = h.1 })
-        (plan-is r file.0 h.0 (Ok (image_of_loaded l)) (Ok input) reads file.2 h.2) kept
+    pub finds-guest : (input : List ℕ) → Reads (input_in (not r.no_input)) known.input (Ok input) → FindsGuest r known (Ok (record { loaded = l; input = input }))
+    finds-guest input h = (
+      record { file = file.0; input = h.0 },
+      record { file = file.1; input = h.1 },
+      plan-is r file.0 h.0 (Ok (image_of_loaded l)) (Ok input) reads file.2 h.2,
+    )
 
--- a bench was done
-pub served-bench : (r : Request) (known : Known) (number : ℕ) (old new : Sinks) (v : Served) → r.task ≡ Bench number → Keeps (bench_plan number (options_of r)) old new v → IsServed (Some r) known old new v
-served-bench r known number old new v e h =
-    served-plan (Some r) known (some_found known) (bench_plan number (options_of r)) old new v (some_agrees known) (bench-is r (some_found known) number e) h
+-- the guest of a bench
+pub finds-bench : (r : Request) (known : Known) (number : ℕ) (l : Loaded) → r.task ≡ Bench number → image (generated number bench_regions) ≡ Ok (image_of_loaded l)
+    → FindsGuest r known (Ok (record { loaded = l; input = [] }))
+finds-bench r known number l e loads =
+    let o = options_of r in
+    let plan-is : bench_plan number o ≡ Does (promise_of (Bench number)) (given_of l [] o) = ap (λ x. plan_of (promise_of (Bench number)) o (unless_bad x) (Ok [])) loads in
+    (some_found known, some_agrees known, bench-is r (some_found known) number e ∙ plan-is ∙ ap (λ task. Does (promise_of task) (given_of l [] o)) (sym e))

@@ -27,7 +27,7 @@ use Rattle.region_trial.proofs.OnTrials.{saves-rows}
 use Rattle.report_text.specs.Reports.{bench_lines}
 use Rattle.guest_streams.specs.GuestStreams.{end_of, Sinks, GetsAll, GetsPart, IsNext, FailsAt, StopsShort}
 use Rattle.fasttrack_program.specs.Reports.{report, reported_verdict, reported_row, reported_ledger, program_report, bench_report}
-use Rattle.fasttrack_program.specs.TextOnSink.{StoppedInText, WritesText}
+use Rattle.sink_text.specs.TextOnSink.{StoppedInText, WritesText}
 use Rattle.fasttrack_program.specs.Answers.{answer_of_fault}
 use Rattle.fasttrack_program.specs.Promise.{Given, Promise, IsHistory}
 use Rattle.fasttrack_program.specs.Serving.{plainly, wholly, KeepsPromise}

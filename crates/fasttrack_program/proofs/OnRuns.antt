@@ -1,19 +1,17 @@
 -- A run with tracks and the texts behind its output, and the summary of a bench
-use Rattle.std.proofs.Common.{◌≡◌, ◌≢◌, ℕ, ◌^◌, ◌<◌, ◌≤◌, true, List, [], ◌++◌, length, Option, Some, Ok, Err, inl, inr, refl, sym, ap, ◌∙◌, subst, append-nil, arith}
-use Rattle.std.specs.Prelude.{All, if◌then◌else◌}
+use Rattle.std.proofs.Common.{◌≡◌, ℕ, zero, suc, ◌^◌, ◌<◌, ◌≤◌, true, List, [], ◌++◌, length, Option, None, Some, Ok, Err, inl, inr, refl, sym, ap, ◌∙◌, subst, append-nil, arith}
+use Rattle.std.specs.Prelude.{All, IfSome, if◌then◌else◌}
 use Rattle.std.specs.Io.KnownBytes.{Appends}
 use Rattle.speculation.specs.declared.history.Entry.{Entry}
 use Rattle.speculation.specs.Run.{Mark, marked, fresh, out}
 use Rattle.speculation.specs.Record.{alone, output_of}
 use Rattle.speculation.specs.Ledger.{originals}
-use Rattle.speculation.specs.Serial.{IsSerial}
 use Rattle.speculation.proofs.Records.{output-alone}
-use Rattle.guest_model.specs.Image.{image, program_alone, start_of}
+use Rattle.guest_model.specs.Image.{program_alone, start_of}
 use Rattle.guest_model.specs.Rv32.{rv32}
 use Rattle.rv32_law.specs.GuestStates.{IsGuestState}
 use Rattle.rv32_law.proofs.Starts.{start-is-guest}
 use Rattle.rv32_law.proofs.OutputBounds.{out-bound}
-use Rattle.rv32_asm.specs.Generated.{generated}
 use Rattle.elf32_loader.specs.LoadedImage.{image_of_loaded}
 use Rattle.elf32_loader.specs.declared.loaded.Loaded.{Loaded}
 use Rattle.region_ledger.specs.Ledger.{ledger_rows, totals_of, SavesAtMostAll}
@@ -24,24 +22,24 @@ use Rattle.guest_streams.specs.declared.fault.OutputFault.{OutputFault}
 use Rattle.guest_streams.specs.declared.fault.OutputFault.TheVariants.{Write, NoMemory}
 use Rattle.guest_streams.proofs.OnStreams.{marked-append, IsNext-marked, WritesPiece-on_notes, GetsAll-more, StopsShort-amid, GetsPart-more}
 use Rattle.track_board.specs.Value.{Posted}
+use Rattle.track_board.specs.Owners.{program_of, posted_by}
 use Rattle.track_board.specs.declared.outcome.Outcome.{Outcome}
-use Rattle.serial_run.specs.Conducting.{IsWhole, IsSameRun, Conducts, released_total}
+use Rattle.serial_run.specs.Conducting.{IsWhole, IsSameRun, HasSerialHistory, Conducts, released_total}
 use Rattle.serial_run.specs.declared.conducted.Conducted.{Conducted}
 use Rattle.serial_run.specs.declared.conducted.Conducted.TheVariants as C
+use Rattle.worker_gate.specs.Histories.{IsRunHistory, HasWorkedHistory, HasRunHistory}
+use Rattle.worker_gate.specs.Seats.{BoardPass, seen_of}
 use Rattle.program_words.specs.declared.request.Task.TheVariants.{Run, Bench}
 use Rattle.fasttrack_program.specs.declared.options.Options.{Options}
 use Rattle.fasttrack_program.specs.declared.answer.Answer.TheVariants as A
-use Rattle.fasttrack_program.specs.declared.served.Served.{Served}
 use Rattle.fasttrack_program.specs.Answers.{answer_of, answer_of_fault}
-use Rattle.fasttrack_program.specs.Plan.{Does, unless_bad, bench_regions, bench_plan, plan_of}
 use Rattle.fasttrack_program.specs.Promise.{Given, alone_on, texts_behind, promise_of, settings_of, IsHistory}
 use Rattle.fasttrack_program.specs.Reports.{bench_report, journal_text, asked_texts}
-use Rattle.fasttrack_program.specs.Serving.{plainly, KeepsPromise, Keeps}
-use Rattle.fasttrack_program.specs.TextOnSink.{WritesText}
-use Rattle.fasttrack_program.specs.Tracks.{given_of, board_for, RunsTracks}
-use Rattle.fasttrack_program.proofs.OnBenches.{bench-loads}
-use Rattle.fasttrack_program.proofs.OnHistories.{history_of_run, history_of_bench}
-use Rattle.fasttrack_program.proofs.OnKeeping.{BreaksOff, BreaksOff-longer, GetsPart-nothing, kept-whole, kept-part, task-read}
+use Rattle.fasttrack_program.specs.Serving.{plainly, KeepsPromise}
+use Rattle.sink_text.specs.TextOnSink.{WritesText}
+use Rattle.fasttrack_program.specs.Tracks.{given_of, board_for, RunsTracks, HasOutcome}
+use Rattle.fasttrack_program.proofs.OnHistories.{history_of_run}
+use Rattle.fasttrack_program.proofs.OnKeeping.{BreaksOff, BreaksOff-longer, GetsPart-nothing, kept-whole, kept-part}
 use Rattle.fasttrack_program.proofs.OnReports.{TellsProgram, report-is, summary-is, rows-inside, rows-save, report-whole, report-part}
 
 -- ---- a text on `notes`, behind an output
@@ -107,9 +105,30 @@ board-same l input o v w is h =
     ∙ ap (λ x. record w { settings = settings_of o; loaded = x }) loaded
     ∙ ap (λ x. record w { settings = settings_of o; loaded = l; input = x }) input_is
 
--- a board that was conducted
-pub runs-conducted : (l : Loaded) (input : List ℕ) (o : Options) (v w : Posted) (old new : Sinks) (r : Conducted) → v ≡ board_for l input o [] → IsSameRun v w → Conducts w old new r → RunsTracks l input o old new r
-runs-conducted l input o v w old new r is same h = (w.entries, subst (λ x. Conducts x old new r) (board-same l input o v w is same) h)
+-- a conductor that promises one kind of history promises another
+conducts-as : (one another : Posted → Type 0) (w : Posted) (old new : Sinks) (r : Conducted) → (one w → another w) → Conducts one w old new r → Conducts another w old new r
+conducts-as one another w old new (C.Done o) carried h = ((h.0.0, carried h.0.1), h.1)
+conducts-as one another w old new C.WriteFault carried h = h
+conducts-as one another w old new C.NoMemory carried h = h
+
+-- a board that was conducted on one thread
+pub runs-conducted : (l : Loaded) (input : List ℕ) (o : Options) (v w : Posted) (old new : Sinks) (r : Conducted) → o.workers ≡ 0 → v ≡ board_for l input o [] → IsSameRun v w
+    → Conducts HasSerialHistory w old new r → RunsTracks l input o old new r
+runs-conducted l input o v w old new r alone is same h =
+    let serial : Conducts HasSerialHistory (board_for l input o w.entries) old new r = subst (λ x. Conducts HasSerialHistory x old new r) (board-same l input o v w is same) h in
+    (w.entries, subst (λ n. Conducts (HasRunHistory n) (board_for l input o w.entries) old new r) (sym alone) serial)
+
+worked-run : (workers : ℕ) (w : Posted) → 1 ≤ workers → HasWorkedHistory workers w → HasRunHistory workers w
+worked-run zero w some h = absurd (omega (arith, some))
+worked-run (suc n) w some h = h
+
+-- a board that was conducted with workers
+pub runs-worked : (l : Loaded) (input : List ℕ) (o : Options) (v : Posted) (p : BoardPass) (old new : Sinks) (r : Conducted) → 1 ≤ o.workers → v ≡ board_for l input o [] → p.fixed ≡ program_of v
+    → Conducts (HasWorkedHistory o.workers) (seen_of p) old new r → RunsTracks l input o old new r
+runs-worked l input o v p old new r some is fixed h =
+    let seen : seen_of p ≡ board_for l input o p.seen = ap (λ x. posted_by x p.seen) (fixed ∙ ap program_of is) in
+    let worked : Conducts (HasWorkedHistory o.workers) (board_for l input o p.seen) old new r = subst (λ w. Conducts (HasWorkedHistory o.workers) w old new r) seen h in
+    (p.seen, conducts-as (HasWorkedHistory o.workers) (HasRunHistory o.workers) (board_for l input o p.seen) old new r (worked-run o.workers (board_for l input o p.seen) some) worked)
 
 -- there was no board
 pub runs-nothing : (l : Loaded) (input : List ℕ) (o : Options) (s : Sinks) → RunsTracks l input o s s C.NoMemory
@@ -118,26 +137,32 @@ runs-nothing l input o s = ([], GetsPart-nothing s (output_of (alone_on (given_o
 guest_of : (l : Loaded) (input : List ℕ) → IsGuestState input (start_of (image_of_loaded l))
 guest_of l input = start-is-guest input l.entry l.areas l.heap l.layout
 
+-- the outcome of a guest, if there was memory for one, is that of some guest
+pub outcome-of_some : (l : Loaded) (input : List ℕ) (o : Options) (r : Option Outcome) → IfSome r (HasOutcome l input o)
+    → IfSome r (λ outcome. (l : Loaded) × (input : List ℕ) × HasOutcome l input o outcome)
+outcome-of_some l input o None h = tt
+outcome-of_some l input o (Some outcome) h = (l, input, h)
+
 -- ---- a run
 
 -- its output broke off
-pub run-breaks : (l : Loaded) (input : List ℕ) (o : Options) (old mid : Sinks) (e : OutputFault) → BreaksOff e old mid (output_of (alone_on (given_of l input o)))
+pub run-breaks : (l : Loaded) (input : List ℕ) (o : Options) → 1 ≤ o.tracks → (old mid : Sinks) (e : OutputFault) → BreaksOff e old mid (output_of (alone_on (given_of l input o)))
     → KeepsPromise (promise_of Run) (given_of l input o) old mid (plainly (answer_of_fault e))
-run-breaks l input o old mid e h =
+run-breaks l input o some old mid e h =
     let g = given_of l input o in
-    let history = history_of_run g (guest_of l input) in
+    let history = history_of_run g (guest_of l input) some in
     kept-part (promise_of Run) g history.0 history.1 old mid e (BreaksOff-longer e old mid (output_of (alone_on g)) (marked 2 (texts_behind g history.0)) h)
 
 -- ---- a run that came to its end
 
-module _ (l : Loaded) (input : List ℕ) (o : Options) (entries : List Entry) (outcome : Outcome) (f : Finished) (whole : IsWhole (board_for l input o entries) outcome) (found : outcome.finished ≡ Some f) where
+module _ (l : Loaded) (input : List ℕ) (o : Options) (entries : List Entry) (outcome : Outcome) (f : Finished) (whole : IsWhole (board_for l input o entries) outcome × HasRunHistory o.workers (board_for l input o entries)) (found : outcome.finished ≡ Some f) where
   pub tells-program : TellsProgram (image_of_loaded l) input o.budget outcome.rows f
   tells-program =
-      let same : f ≡ whole.finished = cc in
+      let same : f ≡ whole.0.finished = cc in
       record {
-        are_ledger = whole.rows;
-        count = ap (λ (x : Finished). x.count) same ∙ whole.count;
-        end = ap (λ (x : Finished). x.end) same ∙ whole.end;
+        are_ledger = whole.0.rows;
+        count = ap (λ (x : Finished). x.count) same ∙ whole.0.count;
+        end = ap (λ (x : Finished). x.end) same ∙ whole.0.end;
       }
 
   pub outcome-inside : originals (ledger_rows outcome.rows) ≤ f.count
@@ -147,7 +172,7 @@ module _ (l : Loaded) (input : List ℕ) (o : Options) (entries : List Entry) (o
   outcome-saves = rows-save (image_of_loaded l) input o.budget outcome.rows f tells-program
 
   run-history : IsHistory true (given_of l input o) outcome.entries
-  run-history = subst (IsSerial (rv32 input) (settings_of o) (start_of (image_of_loaded l))) (sym whole.outcome.entries) whole.serial
+  run-history = subst (IsRunHistory o.workers (rv32 input) (settings_of o) (start_of (image_of_loaded l))) (sym whole.0.outcome.entries) whole.1
 
   texts-are : asked_texts o outcome.rows f outcome.entries ≡ texts_behind (given_of l input o) outcome.entries
   texts-are =
@@ -177,7 +202,7 @@ module _ (l : Loaded) (input : List ℕ) (o : Options) (entries : List Entry) (o
   -- ---- a bench
 
   total-is : released_total outcome.entries ≡ length (output_of (program_alone (image_of_loaded l) input o.budget))
-  total-is = ap released_total whole.outcome.entries ∙ whole.total
+  total-is = ap released_total whole.0.outcome.entries ∙ whole.0.total
 
   -- the released bytes are few enough to be counted
   pub total-fits : o.budget ≤ 2 ^ 40 → released_total outcome.entries < 2 ^ 64
@@ -187,40 +212,27 @@ module _ (l : Loaded) (input : List ℕ) (o : Options) (entries : List Entry) (o
       let bound = out-bound input (fresh start) o.budget (guest_of l input) in
       omega (arith, total-is, whole_run, bound, h)
 
-  module _ (number : ℕ) (loads : image (generated number bench_regions) ≡ Ok (image_of_loaded l)) (none : input ≡ []) where
+  module _ (number : ℕ) where
     abbrev summary : List ℕ
     summary = bench_lines number (totals_of outcome.rows f.count) (released_total outcome.entries) f.end
 
-    abbrev bench_given : Given
-    bench_given = given_of l [] o
-
-    plan-is : bench_plan number o ≡ Does (promise_of (Bench number)) bench_given
-    plan-is = ap (λ r. plan_of (promise_of (Bench number)) o (unless_bad r) (Ok [])) loads
-
-    summary-is_report : summary ≡ bench_report number (image_of_loaded l) [] o.budget
-    summary-is_report =
-        summary-is (image_of_loaded l) input o.budget outcome.rows f tells-program number (released_total outcome.entries) total-is
-        ∙ ap (λ xs. bench_report number (image_of_loaded l) xs o.budget) none
-
-    bench-history : IsHistory true bench_given outcome.entries
-    bench-history = subst (λ xs. IsHistory true (given_of l xs o) outcome.entries) none run-history
+    summary-is_report : summary ≡ bench_report number (image_of_loaded l) input o.budget
+    summary-is_report = summary-is (image_of_loaded l) input o.budget outcome.rows f tells-program number (released_total outcome.entries) total-is
 
     module _ (old : Sinks) (held : Option (List ℕ)) (faults : ℕ) where
       -- all of the summary was written
       pub bench-whole : WritesText {T = Unit {0}} old.out held old.out_faults faults summary (Ok tt)
-          → Keeps (bench_plan number o) old (record old { out = held; out_faults = faults }) (record { answer = A.Shown; history = Some outcome.entries })
+          → KeepsPromise (promise_of (Bench number)) (given_of l input o) old (record old { out = held; out_faults = faults }) (record { answer = A.Shown; history = Some outcome.entries })
       bench-whole w =
-          subst (λ p. Keeps p old (record old { out = held; out_faults = faults }) (record { answer = A.Shown; history = Some outcome.entries })) (sym plan-is)
-          (report-whole (promise_of (Bench number)) bench_given outcome.entries bench-history (bench_report number (image_of_loaded l) [] o.budget) refl old held faults
-          (subst (λ text. WritesText {T = Unit {0}} old.out held old.out_faults faults text (Ok tt)) summary-is_report w))
+          report-whole (promise_of (Bench number)) (given_of l input o) outcome.entries run-history (bench_report number (image_of_loaded l) input o.budget) refl old held faults
+          (subst (λ text. WritesText {T = Unit {0}} old.out held old.out_faults faults text (Ok tt)) summary-is_report w)
 
       -- it was not written whole
       pub bench-part : (e : OutputFault) → WritesText {T = Unit {0}} old.out held old.out_faults faults summary (Err e)
-          → Keeps (bench_plan number o) old (record old { out = held; out_faults = faults }) (plainly (answer_of_fault e))
+          → KeepsPromise (promise_of (Bench number)) (given_of l input o) old (record old { out = held; out_faults = faults }) (plainly (answer_of_fault e))
       bench-part e w =
-          subst (λ p. Keeps p old (record old { out = held; out_faults = faults }) (plainly (answer_of_fault e))) (sym plan-is)
-          (report-part (promise_of (Bench number)) bench_given outcome.entries bench-history (bench_report number (image_of_loaded l) [] o.budget) refl old held faults e
-          (subst (λ text. WritesText {T = Unit {0}} old.out held old.out_faults faults text (Err e)) summary-is_report w))
+          report-part (promise_of (Bench number)) (given_of l input o) outcome.entries run-history (bench_report number (image_of_loaded l) input o.budget) refl old held faults e
+          (subst (λ text. WritesText {T = Unit {0}} old.out held old.out_faults faults text (Err e)) summary-is_report w)
 
 -- ---- a bench that was not run, or not to its end
 
@@ -233,19 +245,8 @@ pub never-fails : (old new : Sinks) (output : List Mark) → old.out_faults ≡ 
 never-fails old new output a b c d h = no-faults old new h.rest a b c d h.fails
 
 -- there was no memory for a bench, or it did not come to its end
-pub bench-breaks : (number : ℕ) (o : Options) (s : Sinks) → Keeps (bench_plan number o) s s (plainly A.NoMemory)
-bench-breaks number o s =
-    let loads = bench-loads number in
-    let g : Given = record { image = loads.0; input = []; options = o } in
-    let history = history_of_bench number loads.0 o loads.1 in
-    let plan-is : bench_plan number o ≡ Does (promise_of (Bench number)) g = ap (λ r. plan_of (promise_of (Bench number)) o r (Ok [])) loads.1 in
-    subst (λ p. Keeps p s s (plainly A.NoMemory)) (sym plan-is)
-    (kept-part (promise_of (Bench number)) g history.0 history.1 s s NoMemory (GetsPart-nothing s ((promise_of (Bench number)).writes g history.0)))
-
--- a bench reads nothing
-pub bench-read : (number : ℕ) (o : Options) (old new : Sinks) (v : Served) → Keeps (bench_plan number o) old new v → v.answer ≢ A.ReadFault
-bench-read number o old new v k =
-    let loads = bench-loads number in
-    let g : Given = record { image = loads.0; input = []; options = o } in
-    let plan-is : bench_plan number o ≡ Does (promise_of (Bench number)) g = ap (λ r. plan_of (promise_of (Bench number)) o r (Ok [])) loads.1 in
-    task-read (Bench number) g old new v (subst (λ p. Keeps p old new v) plan-is k)
+pub bench-breaks : (l : Loaded) (input : List ℕ) (number : ℕ) (o : Options) (s : Sinks) → 1 ≤ o.tracks → KeepsPromise (promise_of (Bench number)) (given_of l input o) s s (plainly A.NoMemory)
+bench-breaks l input number o s some =
+    let g : Given = given_of l input o in
+    let history = history_of_run g (guest_of l input) some in
+    kept-part (promise_of (Bench number)) g history.0 history.1 s s NoMemory (GetsPart-nothing s ((promise_of (Bench number)).writes g history.0))

@@ -2,11 +2,11 @@ pub mod AnswerLine
 pub mod Answers
 pub mod Completeness
 pub mod FaultTexts
+pub mod Finding
 pub mod Plan
 pub mod Promise
 pub mod Reading
 pub mod Reports
 pub mod Serving
-pub mod TextOnSink
 pub mod TopCall
 pub mod Tracks

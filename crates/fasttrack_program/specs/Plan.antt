@@ -23,7 +23,7 @@ pub record Found : Type 0 where
   pub input : List ℕ
 
 abbrev pub options_of : Request → Options
-options_of r = record { tracks = r.tracks; budget = r.budget; report = r.report; journal = r.journal }
+options_of r = record { tracks = r.tracks; workers = r.workers; budget = r.budget; report = r.report; journal = r.journal }
 
 -- ---- what is read
 

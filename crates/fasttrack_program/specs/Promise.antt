@@ -4,12 +4,12 @@ use Rattle.speculation.specs.declared.history.Entry.{Entry}
 use Rattle.speculation.specs.declared.history.Settings.{Settings}
 use Rattle.speculation.specs.Record.{Ran, output_of}
 use Rattle.speculation.specs.Run.{Mark, marked}
-use Rattle.speculation.specs.Serial.{IsSerial}
 use Rattle.guest_model.specs.Image.{Image, program_alone, start_of}
 use Rattle.guest_model.specs.MachineState.{MachineState}
 use Rattle.guest_model.specs.Rv32.{rv32}
 use Rattle.guest_model.specs.declared.end.End.{End}
 use Rattle.guest_streams.specs.GuestStreams.{end_of}
+use Rattle.worker_gate.specs.Histories.{IsRunHistory}
 use Rattle.program_words.specs.declared.request.Task.{Task}
 use Rattle.program_words.specs.declared.request.Task.TheVariants.{Alone, Run, Trial, Bench}
 use Rattle.fasttrack_program.specs.Answers.{answer_of}
@@ -86,7 +86,9 @@ promise_of (Bench number) = record {
 abbrev pub settings_of : Options → Settings
 settings_of o = record { tracks = o.tracks; budget = o.budget }
 
--- the entries are the serial history of the guest, where there are tracks; else there are none
+-- The entries are a history of the guest by as many workers as the options say, where there are tracks; else there are
+-- none. Without workers it is the serial history. With workers it is a legal one that has a finish, whose loans went to
+-- seats up to the number of workers.
 abbrev pub IsHistory : Bool → Given → List Entry → Type 0
-IsHistory true g entries = IsSerial (rv32 g.input) (settings_of g.options) (start_of g.image) entries
+IsHistory true g entries = IsRunHistory g.options.workers (rv32 g.input) (settings_of g.options) (start_of g.image) entries
 IsHistory false g entries = entries ≡ []

@@ -1,14 +1,15 @@
 -- What a call of the program answers, what it leaves on `out` and `notes`, and which history it hands out
-use Rattle.std.specs.Prelude.{◌≡◌, Bool, true, false, ◌&&◌, nat_le, IsTrue, if◌then◌else◌, List, [], ◌∷◌, ◌++◌, Option, Some, None, ◌⊎◌}
+use Rattle.std.specs.Prelude.{◌≡◌, Bool, true, false, ◌&&◌, nat_le, IsTrue, if◌then◌else◌, List, [], ◌∷◌, ◌++◌, Option, Some, None, Result, Ok, Err, ◌⊎◌}
 use Rattle.speculation.specs.declared.history.Entry.{Entry}
 use Rattle.guest_streams.specs.GuestStreams.{Sinks}
-use Rattle.program_words.specs.CommandLine.{Request}
+use Rattle.program_words.specs.CommandLine.{Request, IsInRange, asked}
+use Rattle.program_words.specs.declared.request.Request.{Request as GivenRequest}
 use Rattle.fasttrack_program.specs.AnswerLine.{Concludes}
 use Rattle.fasttrack_program.specs.Promise.{promise_of}
 use Rattle.fasttrack_program.specs.Reading.{Known}
 use Rattle.fasttrack_program.specs.Serving.{IsServed}
 use Rattle.fasttrack_program.specs.declared.answer.Answer.{Answer}
-use Rattle.fasttrack_program.specs.declared.answer.Answer.TheVariants.{Exited, Trapped, Spent, Shown, NoMemory}
+use Rattle.fasttrack_program.specs.declared.answer.Answer.TheVariants.{Exited, Trapped, Spent, Shown, Usage, NoMemory}
 use Rattle.fasttrack_program.specs.declared.served.Served.{Served}
 
 -- ---- histories
@@ -38,6 +39,13 @@ pub record IsAnswered (request : Option Request) (known : Known) (old new : Sink
   pub out_faults : new.out_faults ≡ between.out_faults
   pub line : Concludes between.notes new.notes between.notes_faults new.notes_faults served.answer result
   pub history : told' ≡ with_history told served.history result
+
+-- ---- the request
+
+-- The request that the words make, with its numbers in their ranges; Usage where they make none, or want of memory.
+abbrev pub IsRequest : Option Request → Result GivenRequest Answer → Type 0
+IsRequest request (Ok r) = (request ≡ Some (asked r)) × IsInRange (asked r)
+IsRequest request (Err answer) = ((answer ≡ Usage) × (request ≡ None)) ⊎ (answer ≡ NoMemory)
 
 -- ---- workers
 

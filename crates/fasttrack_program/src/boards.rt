@@ -1,12 +1,10 @@
-//! Runs of an image with tracks.
+//! Runs of a guest with tracks on one thread.
 
-ghost use Rattle.std.specs.Prelude.{◌≡◌, List, [], IfOk, IfSome};
-ghost use Rattle.speculation.specs.declared.history.Entry.{Entry};
+ghost use Rattle.std.specs.Prelude.{◌≡◌, [], IfOk, IfSome};
 ghost use Rattle.track_board.specs.Value.{IsSettings};
-ghost use Rattle.serial_run.specs.Conducting.{IsWhole};
 ghost use Rattle.fasttrack_program.specs.Promise.{settings_of};
 ghost use Rattle.guest_streams.specs.GuestStreams.{sinks_of};
-ghost use Rattle.fasttrack_program.specs.Tracks.{board_for, RunsTracks};
+ghost use Rattle.fasttrack_program.specs.Tracks.{board_for, HasOutcome, RunsTracks};
 
 use crate::options::Options;
 use elf32_loader::Loaded;
@@ -17,7 +15,7 @@ use std::alloc::Global;
 use std::sync::Arc;
 use track_board::{Board, Outcome, Settings};
 
-/// Runs the guest of an image with tracks on one thread, `out` for its stream 1 and `notes` for its stream 2.
+/// Runs a guest with tracks on one thread, `out` for its stream 1 and `notes` for its stream 2.
 pub fn run_tracks<O: Sink, N: Sink>(
     alloc: Global,
     loaded: &Loaded,
@@ -26,7 +24,8 @@ pub fn run_tracks<O: Sink, N: Sink>(
     out: &mut O,
     notes: &mut N,
 ) -> Conducted
-    requires { IsSettings (settings_of options.now) }
+    requires settings { IsSettings (settings_of options.now) }
+    requires alone { options.now.workers ≡ 0 }
     ensures { RunsTracks loaded.now input options.now
         (sinks_of O.Sink N.Sink out.old notes.old) (sinks_of O.Sink N.Sink out.new notes.new) result }
 {
@@ -36,16 +35,21 @@ pub fn run_tracks<O: Sink, N: Sink>(
     }
 }
 
-/// Runs the guest of an image with tracks on one thread, without input. What it writes is counted and dropped. None where
-/// memory ran out.
-pub fn run_counted(alloc: Global, loaded: &Loaded, options: &Options) -> Option<Outcome>
-    requires { IsSettings (settings_of options.now) }
-    ensures { IfSome result (λ outcome. (entries : List Entry) × IsWhole (board_for loaded.now [] options.now entries) outcome) }
+/// Runs a guest with tracks on one thread. What it writes is counted and dropped. None where memory ran out.
+pub fn run_counted(
+    alloc: Global,
+    loaded: &Loaded,
+    input: Bytes,
+    options: &Options,
+) -> Option<Outcome>
+    requires settings { IsSettings (settings_of options.now) }
+    requires alone { options.now.workers ≡ 0 }
+    ensures { IfSome result (HasOutcome loaded.now input options.now) }
 {
     match run_tracks(
         alloc,
         loaded,
-        Bytes::new(alloc),
+        input,
         options,
         &mut CountSink::new(),
         &mut CountSink::new(),
@@ -61,7 +65,7 @@ pub fn run_counted(alloc: Global, loaded: &Loaded, options: &Options) -> Option<
 ///
 /// # Errors
 /// `NoMemory` where there is no room for it.
-fn make_board(
+pub fn make_board(
     alloc: Global,
     loaded: &Loaded,
     input: Bytes,

@@ -3,12 +3,12 @@
 ghost use Rattle.std.specs.Prelude.{◌++◌, ◌∷◌, []};
 ghost use Rattle.board_events.specs.Texts.{text_of};
 ghost use Rattle.fasttrack_program.specs.Reports.{journal_text};
-ghost use Rattle.fasttrack_program.specs.TextOnSink.{WritesOn};
+ghost use Rattle.sink_text.specs.TextOnSink.{WritesOn};
 
-use crate::texts::write_made;
 use board_events::{Entry, entry_text};
 use guest_streams::OutputFault;
 use host_io::Sink;
+use sink_text::write_made;
 use std::alloc::Global;
 
 /// Writes the journal of these entries, line by line.

@@ -5,6 +5,7 @@ ghost use Rattle.host_io.specs.Faults.{Rose};
 ghost use Rattle.guest_model.specs.Image.{Image, image};
 ghost use Rattle.guest_model.specs.declared.difference.Difference.{Difference};
 ghost use Rattle.program_words.specs.CommandLine.{Request};
+ghost use Rattle.program_words.specs.declared.request.Task.{Task};
 ghost use Rattle.program_words.specs.declared.request.Task.TheVariants.{Alone, Run, Trial, Bench};
 ghost use Rattle.guest_streams.specs.GuestStreams.{Sinks, StopsShort};
 ghost use Rattle.region_ledger.specs.Ledger.{ledger_rows};
@@ -23,7 +24,7 @@ ghost use Rattle.fasttrack_program.specs.Plan.{Does, Found, bench_image, image_l
 ghost use Rattle.fasttrack_program.specs.Promise.{Given, promise_of};
 ghost use Rattle.fasttrack_program.specs.Reading.{Known};
 ghost use Rattle.fasttrack_program.specs.Reports.{program_report, bench_report, reported_row};
-ghost use Rattle.fasttrack_program.specs.TextOnSink.{StoppedInText};
+ghost use Rattle.sink_text.specs.TextOnSink.{StoppedInText};
 ghost use Rattle.fasttrack_program.specs.declared.answer.Answer.{Answer};
 
 /// Where `trial` or `bench` can't write its report, the count of `out` rose, and `out` got a beginning of the report that
@@ -82,6 +83,15 @@ pub fn reports_never_depend_on_tracks()
         → (promise_of Trial).writes (record given { options = record given.options { tracks = tracks } }) entries ≡ (promise_of Trial).writes given entries }
     ensures run { (given : Given) (tracks : ℕ) (entries others : List Entry) → given.options.journal ≡ false
         → (promise_of Run).writes (record given { options = record given.options { tracks = tracks } }) entries ≡ (promise_of Run).writes given others }
+{}
+
+/// Nor does anything else that is written but a journal, nor any answer, depend on how many workers there are, or on the
+/// order in which they get their turns.
+pub fn output_never_depends_on_workers()
+    ensures writes { (task : Task) (given : Given) (workers : ℕ) (entries others : List Entry) → given.options.journal ≡ false
+        → (promise_of task).writes (record given { options = record given.options { workers = workers } }) entries ≡ (promise_of task).writes given others }
+    ensures answers { (task : Task) (given : Given) (workers : ℕ)
+        → (promise_of task).answer (record given { options = record given.options { workers = workers } }) ≡ (promise_of task).answer given }
 {}
 
 /// Output waits until it is verified: a release hands out exactly the verified bytes, which are those of judged tracks and

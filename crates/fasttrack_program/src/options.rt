@@ -11,6 +11,8 @@ use program_words::Request;
 pub struct Options {
     /// How many regions may be open at once, from 1 to 32.
     pub tracks: u64,
+    /// How many workers run tracks beside the conductor, from 0 to 64. Without workers a run is done on one thread.
+    pub workers: u64,
     /// How many instructions the guest runs at most, from 1 to 2^40.
     pub budget: u64,
     /// Whether the report of the program stands behind the guest's output.
@@ -25,6 +27,7 @@ pub fn options_in(request: &Request<'_>) -> Options
 {
     Options {
         tracks: request.tracks,
+        workers: request.workers,
         budget: request.budget,
         report: request.report,
         journal: request.journal,

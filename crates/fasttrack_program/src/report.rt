@@ -5,14 +5,14 @@ ghost use Rattle.speculation.specs.Ledger.{originals};
 ghost use Rattle.region_ledger.specs.Ledger.{ledger_rows, SavesAtMostAll};
 ghost use Rattle.report_text.specs.Reports.{row_line, totals_line, end_line};
 ghost use Rattle.fasttrack_program.specs.Reports.{report, rows_text};
-ghost use Rattle.fasttrack_program.specs.TextOnSink.{WritesOn};
+ghost use Rattle.sink_text.specs.TextOnSink.{WritesOn};
 
-use crate::texts::write_made;
 use guest_model::End;
 use guest_streams::OutputFault;
 use host_io::Sink;
 use region_ledger::{Finished, Row, Totals, totals};
 use report_text::{end_text, row_text, totals_text};
+use sink_text::write_made;
 use std::alloc::Global;
 
 /// Writes the report of these rows of a program that ended so, line by line.

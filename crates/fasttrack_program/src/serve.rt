@@ -1,42 +1,46 @@
 //! One call of the program up to its answer's line.
 
-ghost use Rattle.std.specs.Prelude.{◌≡◌, Some, IsTrue};
+ghost use Rattle.std.specs.Prelude.{◌≡◌, ◌≤◌, Some, IsTrue, false};
 ghost use Rattle.guest_streams.specs.GuestStreams.{sinks_of};
 ghost use Rattle.program_words.specs.CommandLine.{asked};
 ghost use Rattle.program_words.specs.declared.request.Task.TheVariants.{Alone};
 ghost use Rattle.track_board.specs.Value.{IsSettings};
-ghost use Rattle.fasttrack_program.specs.Plan.{is_file, options_of};
+ghost use Rattle.fasttrack_program.specs.Plan.{options_of};
 ghost use Rattle.fasttrack_program.specs.Promise.{promise_of, settings_of};
 ghost use Rattle.fasttrack_program.specs.Reading.{ReadsInOrder, known_of};
 ghost use Rattle.fasttrack_program.specs.Serving.{IsServed, KeepsPromise};
+ghost use Rattle.fasttrack_program.specs.TopCall.{needs_workers};
 ghost use Rattle.fasttrack_program.specs.Tracks.{given_of};
 
 use crate::alone::run_alone;
 use crate::answer::{Answer, answer_of, answer_of_fault};
+use crate::guest::{LoadedGuest, find_guest};
 use crate::options::{Options, options_in};
-use crate::read::{read_image, read_input};
 use crate::served::{Served, plain};
-use crate::show_bench::show_bench;
-use crate::show_run::show_run;
+use crate::show_bench::{show_bench, show_bench_with_workers};
+use crate::show_run::{show_run, show_run_with_workers};
 use crate::show_trial::show_trial;
-use elf32_loader::Loaded;
-use guest_model::{Bytes, FlatMemory, Regs, State};
+use guest_model::{FlatMemory, Regs, State};
 use host_io::{Files, Sink, Source};
 use program_words::{Request, Task};
 use std::alloc::Global;
+use std::rt::Clock;
+use std::sync::Wait;
+use std::thread::Threads;
+use worker_gate::Gate;
 
-/// The task `alone`: runs the guest of an image alone.
+/// The task `alone`: runs a guest alone.
 fn show_alone<O: Sink, N: Sink>(
     alloc: Global,
-    loaded: &Loaded,
-    input: &[u8],
+    guest: &LoadedGuest,
     options: &Options,
     out: &mut O,
     notes: &mut N,
 ) -> Served
-    ensures { KeepsPromise (promise_of Alone) (given_of loaded.now input.now options.now)
+    ensures { KeepsPromise (promise_of Alone) (given_of guest.now.loaded guest.now.input options.now)
         (sinks_of O.Sink N.Sink out.old notes.old) (sinks_of O.Sink N.Sink out.new notes.new) result }
 {
+    let loaded = &guest.loaded;
     let Ok(memory) = FlatMemory::from_areas(alloc, loaded.areas.as_slice()) else {
         return plain(Answer::NoMemory);
     };
@@ -46,37 +50,63 @@ fn show_alone<O: Sink, N: Sink>(
         place: 0,
         heap: loaded.heap,
     };
+    let input = guest.input.as_slice();
     match run_alone(alloc, &mut state, input, options.budget, out, notes) {
         Ok(end) => plain(answer_of(end)),
         Err(fault) => plain(answer_of_fault(fault)),
     }
 }
 
-/// Does a task on the guest of an image.
+/// Does a task on its guest, on one thread.
 fn do_task<O: Sink, N: Sink>(
     alloc: Global,
     task: Task,
-    loaded: &Loaded,
-    input: Bytes,
+    guest: LoadedGuest,
     options: &Options,
     out: &mut O,
     notes: &mut N,
 ) -> Served
     requires settings { IsSettings (settings_of options.now) }
-    requires image { IsTrue (is_file (promise_of task).guest) }
-    ensures { KeepsPromise (promise_of task) (given_of loaded.now input options.now)
+    requires alone { IsTrue (promise_of task).has_tracks → options.now.workers ≡ 0 }
+    ensures { KeepsPromise (promise_of task) (given_of guest.loaded guest.input options.now)
         (sinks_of O.Sink N.Sink out.old notes.old) (sinks_of O.Sink N.Sink out.new notes.new) result }
 {
     match task {
-        Task::Alone => show_alone(alloc, loaded, input.as_slice(), options, out, notes),
-        Task::Run => show_run(alloc, loaded, input, options, out, notes),
-        Task::Trial => show_trial(alloc, loaded, input.as_slice(), options, out),
-        Task::Bench(_) => unreachable!(),
+        Task::Alone => show_alone(alloc, &guest, options, out, notes),
+        Task::Run => show_run(alloc, guest, options, out, notes),
+        Task::Trial => show_trial(alloc, &guest, options, out),
+        Task::Bench(number) => show_bench(alloc, number, guest, options, out),
     }
 }
 
-/// Reads what the task of a request reads, the image and, unless it is to be left unread, the input, and does it. A bench
-/// reads neither.
+/// Does a task with tracks on its guest, by as many workers as the options say.
+fn do_with_workers<R: Threads + Wait + Clock + Sync, O: Sink, N: Sink, G: Gate + Sync>(
+    rt: &R,
+    alloc: Global,
+    task: Task,
+    guest: LoadedGuest,
+    options: &Options,
+    out: &mut O,
+    notes: &mut N,
+    gate: &G,
+) -> Served
+    requires settings { IsSettings (settings_of options.now) }
+    requires tracks { IsTrue (promise_of task).has_tracks }
+    requires some { 1 ≤ options.now.workers }
+    requires few { options.now.workers ≤ 64 }
+    ensures { KeepsPromise (promise_of task) (given_of guest.loaded guest.input options.now)
+        (sinks_of O.Sink N.Sink out.old notes.old) (sinks_of O.Sink N.Sink out.new notes.new) result }
+{
+    match task {
+        Task::Run => show_run_with_workers(rt, alloc, guest, options, out, notes, gate),
+        Task::Bench(number) => {
+            show_bench_with_workers(rt, alloc, number, guest, options, out, gate)
+        }
+        Task::Alone | Task::Trial => unreachable!(),
+    }
+}
+
+/// Finds the guest of a request and does its task, on one thread.
 pub fn serve_request<F: Files, I: Source, O: Sink, N: Sink>(
     alloc: Global,
     request: &Request<'_>,
@@ -85,7 +115,8 @@ pub fn serve_request<F: Files, I: Source, O: Sink, N: Sink>(
     out: &mut O,
     notes: &mut N,
 ) -> Served
-    requires { IsSettings (settings_of (options_of (asked request.now))) }
+    requires settings { IsSettings (settings_of (options_of (asked request.now))) }
+    requires alone { needs_workers (Some (asked request.now)) ≡ false }
     ensures served { let request = Some (asked request.now) in
         IsServed request (known_of F.Files I.Source request files.old input.old)
         (sinks_of O.Sink N.Sink out.old notes.old) (sinks_of O.Sink N.Sink out.new notes.new) result }
@@ -93,15 +124,42 @@ pub fn serve_request<F: Files, I: Source, O: Sink, N: Sink>(
     ensures held { F.contents files.new ≡ F.contents files.old }
 {
     let options = options_in(request);
-    if let Task::Bench(number) = request.task {
-        return show_bench(alloc, number, &options, out);
+    match find_guest(alloc, request, files, input) {
+        Ok(guest) => do_task(alloc, request.task, guest, &options, out, notes),
+        Err(answer) => plain(answer),
     }
-    let loaded = match read_image(alloc, files, request.image) {
-        Ok(loaded) => loaded,
-        Err(answer) => return plain(answer),
-    };
-    match read_input(alloc, !request.no_input, input) {
-        Ok(bytes) => do_task(alloc, request.task, &loaded, bytes, &options, out, notes),
+}
+
+/// The same for a request that asks for workers, by these.
+pub fn serve_with_workers<
+    R: Threads + Wait + Clock + Sync,
+    F: Files,
+    I: Source,
+    O: Sink,
+    N: Sink,
+    G: Gate + Sync,
+>(
+    rt: &R,
+    alloc: Global,
+    request: &Request<'_>,
+    files: &mut F,
+    input: &mut I,
+    out: &mut O,
+    notes: &mut N,
+    gate: &G,
+) -> Served
+    requires settings { IsSettings (settings_of (options_of (asked request.now))) }
+    requires some { IsTrue (needs_workers (Some (asked request.now))) }
+    requires few { request.now.workers ≤ 64 }
+    ensures served { let request = Some (asked request.now) in
+        IsServed request (known_of F.Files I.Source request files.old input.old)
+        (sinks_of O.Sink N.Sink out.old notes.old) (sinks_of O.Sink N.Sink out.new notes.new) result }
+    ensures reads { ReadsInOrder F.Files I.Source (Some (asked request.now)) files.old files.new input.old input.new result.answer }
+    ensures held { F.contents files.new ≡ F.contents files.old }
+{
+    let options = options_in(request);
+    match find_guest(alloc, request, files, input) {
+        Ok(guest) => do_with_workers(rt, alloc, request.task, guest, &options, out, notes, gate),
         Err(answer) => plain(answer),
     }
 }

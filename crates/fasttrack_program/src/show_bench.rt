@@ -1,51 +1,94 @@
-//! The task `bench`: a program for benches, run with tracks, and the summary of it.
+//! The task `bench`: a generated guest, run with tracks, and the summary of its run.
 
-ghost use Rattle.std.specs.Prelude.{◌≡◌, ◌≤◌, ◌<◌, ◌^◌, All, Ok, IfOk};
+ghost use Rattle.std.specs.Prelude.{◌≡◌, ◌≤◌, ◌<◌, ◌^◌, ℕ, All, IfSome, List};
 ghost use Rattle.speculation.specs.Ledger.{originals};
-ghost use Rattle.guest_model.specs.Image.{image};
-ghost use Rattle.elf32_loader.specs.LoadedImage.{image_of_loaded};
+ghost use Rattle.elf32_loader.specs.declared.loaded.Loaded.{Loaded};
+ghost use Rattle.program_words.specs.declared.request.Task.TheVariants.{Bench};
 ghost use Rattle.region_ledger.specs.Ledger.{ledger_rows, totals_of, SavesAtMostAll};
 ghost use Rattle.report_text.specs.Reports.{bench_lines};
-ghost use Rattle.rv32_asm.specs.Generated.{generated};
 ghost use Rattle.track_board.specs.Value.{IsSettings};
 ghost use Rattle.serial_run.specs.Conducting.{released_total};
 ghost use Rattle.guest_streams.specs.GuestStreams.{Sinks, with_out};
-ghost use Rattle.fasttrack_program.specs.Plan.{bench_plan, bench_regions};
-ghost use Rattle.fasttrack_program.specs.Promise.{settings_of};
-ghost use Rattle.fasttrack_program.specs.Serving.{Keeps};
-ghost use Rattle.fasttrack_program.specs.TextOnSink.{WritesOn};
+ghost use Rattle.fasttrack_program.specs.Promise.{promise_of, settings_of};
+ghost use Rattle.fasttrack_program.specs.Serving.{KeepsPromise};
+ghost use Rattle.sink_text.specs.TextOnSink.{WritesOn};
+ghost use Rattle.fasttrack_program.specs.Tracks.{HasOutcome, given_of};
 
 use crate::answer::{Answer, answer_of_fault};
 use crate::boards::run_counted;
+use crate::guest::LoadedGuest;
 use crate::options::Options;
 use crate::served::{Served, plain};
-use crate::texts::write_made;
-use elf32_loader::{ImageFault, Loaded, load};
-use guest_model::NoMemory;
+use crate::workers::run_counted_with_workers;
 use guest_streams::OutputFault;
 use host_io::Sink;
 use region_ledger::{Finished, Row, totals};
 use report_text::bench_text;
-use rv32_asm::generate;
+use sink_text::write_made;
 use std::alloc::Global;
+use std::rt::Clock;
+use std::sync::Wait;
+use std::thread::Threads;
 use track_board::{Entry, Outcome};
+use worker_gate::Gate;
 
-/// How many regions the program of a bench has.
-const REGIONS: u32 = 64;
-
-/// Runs the program for benches of this number with tracks, on one thread and without input, and writes its summary on
-/// `out`. What the guest writes is counted and dropped.
-pub fn show_bench<O: Sink>(alloc: Global, number: u32, options: &Options, out: &mut O) -> Served
-    requires { IsSettings (settings_of options.now) }
-
+/// Runs the guest of the bench of this number with tracks on one thread, and ends the task. What the guest writes is
+/// counted and dropped.
+pub fn show_bench<O: Sink>(
+    alloc: Global,
+    number: u32,
+    guest: LoadedGuest,
+    options: &Options,
+    out: &mut O,
+) -> Served
+    requires settings { IsSettings (settings_of options.now) }
+    requires alone { options.now.workers ≡ 0 }
     // Whatever notes hold, they are left alone.
-    ensures { (s : Sinks) → Keeps (bench_plan number options.now)
+    ensures { (s : Sinks) → KeepsPromise (promise_of (Bench number)) (given_of guest.loaded guest.input options.now)
         (with_out O.Sink out.old s) (with_out O.Sink out.new s) result }
 {
-    let Ok(loaded) = load_bench(alloc, number) else {
-        return plain(Answer::NoMemory);
-    };
-    let Some(outcome) = run_counted(alloc, &loaded, options) else {
+    let LoadedGuest { loaded, input } = guest;
+    let outcome = run_counted(alloc, &loaded, input, options);
+    end_bench(alloc, number, options, outcome, out)
+}
+
+/// The same by as many workers as the options say.
+pub fn show_bench_with_workers<R: Threads + Wait + Clock + Sync, O: Sink, G: Gate + Sync>(
+    rt: &R,
+    alloc: Global,
+    number: u32,
+    guest: LoadedGuest,
+    options: &Options,
+    out: &mut O,
+    gate: &G,
+) -> Served
+    requires settings { IsSettings (settings_of options.now) }
+    requires some { 1 ≤ options.now.workers }
+    requires few { options.now.workers ≤ 64 }
+    // Whatever notes hold, they are left alone.
+    ensures { (s : Sinks) → KeepsPromise (promise_of (Bench number)) (given_of guest.loaded guest.input options.now)
+        (with_out O.Sink out.old s) (with_out O.Sink out.new s) result }
+{
+    let LoadedGuest { loaded, input } = guest;
+    let outcome = run_counted_with_workers(rt, alloc, &loaded, input, options, gate);
+    end_bench(alloc, number, options, outcome, out)
+}
+
+/// Ends the task `bench` of this number, once its guest was run with tracks: the summary comes on `out`.
+fn end_bench<O: Sink>(
+    alloc: Global,
+    number: u32,
+    options: &Options,
+    outcome: Option<Outcome>,
+    out: &mut O,
+) -> Served
+    requires settings { IsSettings (settings_of options.now) }
+    requires ran { IfSome outcome (λ o. (l : Loaded) × (input : List ℕ) × HasOutcome l input options.now o) }
+    // Whatever guest was run, and whatever notes hold.
+    ensures { (l : Loaded) (input : List ℕ) (s : Sinks) → IfSome outcome (HasOutcome l input options.now)
+        → KeepsPromise (promise_of (Bench number)) (given_of l input options.now) (with_out O.Sink out.old s) (with_out O.Sink out.new s) result }
+{
+    let Some(outcome) = outcome else {
         return plain(Answer::NoMemory);
     };
     let Outcome {
@@ -69,21 +112,6 @@ pub fn show_bench<O: Sink>(alloc: Global, number: u32, options: &Options, out: &
             history: Some(entries),
         },
         Err(fault) => plain(answer_of_fault(fault)),
-    }
-}
-
-/// The loaded image of the program for benches of this number, which has no fault.
-///
-/// # Errors
-/// `NoMemory` where there is no room for it.
-fn load_bench(alloc: Global, number: u32) -> Result<Loaded, NoMemory>
-    ensures { IfOk result (λ l. image (generated number bench_regions) ≡ Ok (image_of_loaded l)) }
-{
-    let bytes = generate(alloc, number, REGIONS)?;
-    match load(alloc, bytes.as_slice()) {
-        Ok(loaded) => Ok(loaded),
-        Err(ImageFault::NoMemory) => Err(NoMemory),
-        Err(_) => unreachable!(),
     }
 }
 

@@ -8,10 +8,10 @@ ghost use Rattle.fasttrack_program.specs.Serving.{KeepsPromise};
 ghost use Rattle.fasttrack_program.specs.Tracks.{given_of};
 
 use crate::answer::{Answer, answer_of_fault};
+use crate::guest::LoadedGuest;
 use crate::options::Options;
 use crate::report::write_report;
 use crate::served::{Served, plain};
-use elf32_loader::Loaded;
 use host_io::Sink;
 use region_trial::run_trial;
 use std::alloc::Global;
@@ -20,18 +20,17 @@ use std::alloc::Global;
 /// is dropped.
 pub fn show_trial<O: Sink>(
     alloc: Global,
-    loaded: &Loaded,
-    input: &[u8],
+    guest: &LoadedGuest,
     options: &Options,
     out: &mut O,
 ) -> Served
     requires within { options.now.budget ≤ 2 ^ 40 }
 
     // Whatever notes hold, they are left alone.
-    ensures { (s : Sinks) → KeepsPromise (promise_of Trial) (given_of loaded.now input.now options.now)
+    ensures { (s : Sinks) → KeepsPromise (promise_of Trial) (given_of guest.now.loaded guest.now.input options.now)
         (with_out O.Sink out.old s) (with_out O.Sink out.new s) result }
 {
-    let Ok(trial) = run_trial(alloc, loaded, input, options.budget) else {
+    let Ok(trial) = run_trial(alloc, &guest.loaded, guest.input.as_slice(), options.budget) else {
         return plain(Answer::NoMemory);
     };
     match write_report(alloc, trial.rows.as_slice(), &trial.finished, out) {

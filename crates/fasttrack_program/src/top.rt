@@ -1,31 +1,42 @@
-//! The top call: words, image, input, run, and the answer's line, in this order.
+//! The top calls: words, image, input, run, and the answer's line, in this order.
 
-ghost use Rattle.std.specs.Prelude.{◌≡◌, ◌<◌, IfSome, IsSome, map, option_map, string_bytes, vec_len, vec_capacity};
+ghost use Rattle.std.specs.Prelude.{◌≡◌, ◌<◌, IfOk, IfSome, IsSome, IsTrue, Some, map, option_map, string_bytes, vec_len, vec_capacity};
 ghost use Rattle.guest_streams.specs.GuestStreams.{sinks_of};
 ghost use Rattle.program_words.specs.CommandLine.{asked, request_of};
+ghost use Rattle.fasttrack_program.specs.AnswerLine.{Concludes};
 ghost use Rattle.fasttrack_program.specs.Completeness.{NothingFailed, IsComplete};
+ghost use Rattle.fasttrack_program.specs.Promise.{promise_of};
 ghost use Rattle.fasttrack_program.specs.Reading.{ReadsInOrder, known_of};
 ghost use Rattle.fasttrack_program.specs.Serving.{IsServed};
-ghost use Rattle.fasttrack_program.specs.TopCall.{IsAnswered, NoneForWorkers, needs_workers};
+ghost use Rattle.fasttrack_program.specs.TopCall.{IsAnswered, IsRequest, NoneForWorkers, needs_workers, with_history};
 
 use crate::answer::Answer;
 use crate::answer_line::conclude;
 use crate::histories::{Histories, hand_out, has_tracks, make_room};
-use crate::serve::serve_request;
+use crate::serve::{serve_request, serve_with_workers};
 use crate::served::{Served, plain};
 use board_events::Entries;
 use guest_model::NoMemory;
 use host_io::{Files, Sink, Source};
 use program_words::{Request, WordsFault, read_words};
 use std::alloc::Global;
+use std::rt::Clock;
+use std::sync::Wait;
+use std::thread::Threads;
+use worker_gate::Gate;
 
-/// Does all that the program does, and answers how it ended. `words` are those behind the program's own name.
+/// Does all that the program does, and answers how it ended. `words` are those behind the program's own name. Each worker
+/// passes the gate before each turn and each slice; a gate that waits changes nothing of what the call promises.
+///
+/// What is promised holds for every order in which threads get their turns, if the call returns. Without workers it is
+/// `plain_main`, which returns.
 ///
 /// - **Answer and output** (`answered`). The call keeps the plan that the words, the image file and the input ask for:
 ///   `specs/Promise.antt` says of each task what it writes on `out` and `notes`, and what it answers once all of that is
 ///   written. What the two got is always a beginning of it. WriteFault comes only where one of them failed, and then at a
 ///   byte of its own; NoMemory anywhere. Behind it `notes` get one line for every answer but Exited and Shown. `told` gets
-///   the history of a task with tracks, exactly where it was done whole and its answer's line was not lost.
+///   the history of a task with tracks, exactly where it was done whole and its answer's line was not lost: without
+///   workers the serial history, with workers a legal one that has a finish, whose loans went to seats up to their number.
 /// - **Completeness** (`complete`). Where no count of faults rose, all of the plan was done, or memory ran out. With
 ///   `laws::good_calls_are_done`: accepted words, an image without a fault and an input within its limit give the
 ///   program's own end with all of its output, or Shown with the whole report.
@@ -35,9 +46,47 @@ use std::alloc::Global;
 ///   (InputTooLong). Then the task is done.
 /// - **Reads** (`reads`). Only what the task reads is read, the input behind an image without a fault. A read that fails
 ///   is counted, and ends the call.
-/// - **Workers** (`workers`). None exactly where the words ask for workers, unless memory ran out; nothing was read,
-///   written or told then. It can't come while `program_words` takes no number of workers but 0.
 /// - **Files** (`held`). What `files` hold is as before.
+pub fn fasttrack_main<
+    R: Threads + Wait + Clock + Sync,
+    F: Files,
+    I: Source,
+    O: Sink,
+    N: Sink,
+    G: Gate + Sync,
+>(
+    rt: &R,
+    alloc: Global,
+    words: &[String],
+    files: &mut F,
+    input: &mut I,
+    out: &mut O,
+    notes: &mut N,
+    gate: &G,
+    told: &mut Histories,
+) -> Answer
+    ensures answered { let request = request_of (map string_bytes words.now) in
+        IsAnswered request (known_of F.Files I.Source request files.old input.old)
+        (sinks_of O.Sink N.Sink out.old notes.old) (sinks_of O.Sink N.Sink out.new notes.new) told.old told.new result }
+    ensures complete { let request = request_of (map string_bytes words.now) in
+        let before = sinks_of O.Sink N.Sink out.old notes.old in
+        let after = sinks_of O.Sink N.Sink out.new notes.new in
+        NothingFailed F.Files I.Source files.old files.new input.old input.new before after
+        → IsComplete request (known_of F.Files I.Source request files.old input.old) before after result }
+    ensures reads { ReadsInOrder F.Files I.Source (request_of (map string_bytes words.now)) files.old files.new input.old input.new result }
+    ensures held { F.contents files.new ≡ F.contents files.old }
+{
+    let histories = &mut told.histories;
+    let served = serve_words_with(rt, alloc, words, files, input, out, notes, gate, histories);
+    end_call(alloc, served, notes, &mut told.histories)
+}
+
+/// Does the same on one thread, for words that ask for no workers. It never waits, and it returns.
+///
+/// The clauses are those of [`fasttrack_main`], with one more.
+///
+/// - **Workers** (`workers`). None exactly where the words ask for workers, unless memory ran out; nothing was read,
+///   written or told then.
 pub fn plain_main<F: Files, I: Source, O: Sink, N: Sink>(
     alloc: Global,
     words: &[String],
@@ -60,21 +109,65 @@ pub fn plain_main<F: Files, I: Source, O: Sink, N: Sink>(
         ((files.new ≡ files.old) × (input.new ≡ input.old) × (out.new ≡ out.old) × (notes.new ≡ notes.old) × (told.new ≡ told.old)) }
     ensures held { F.contents files.new ≡ F.contents files.old }
 {
-    let Served { answer, history } = serve_words(
-        alloc,
-        words,
-        files,
-        input,
-        out,
-        notes,
-        &mut told.histories,
-    )?;
-    let answer = conclude(alloc, answer, notes);
-    hand_out(&mut told.histories, history, answer);
-    Some(answer)
+    let histories = &mut told.histories;
+    let served = serve_words(alloc, words, files, input, out, notes, histories)?;
+    Some(end_call(alloc, served, notes, &mut told.histories))
 }
 
-/// All but the answer's line. There is room for the history that goes with the answer.
+/// The end of a call: the answer's line, and the history that goes with the answer.
+fn end_call<N: Sink>(
+    alloc: Global,
+    served: Served,
+    notes: &mut N,
+    histories: &mut Vec<Entries>,
+) -> Answer
+    requires room { IsSome served.history → vec_len histories.old < vec_capacity histories.old }
+    ensures line { Concludes (N.contents notes.old) (N.contents notes.new) (N.faults notes.old) (N.faults notes.new) served.answer result }
+    ensures history { histories.new.items ≡ with_history histories.old.items served.history result }
+{
+    let Served { answer, history } = served;
+    let answer = conclude(alloc, answer, notes);
+    hand_out(histories, history, answer);
+    answer
+}
+
+/// All but the end of a call, on as many threads as the words ask for.
+fn serve_words_with<
+    R: Threads + Wait + Clock + Sync,
+    F: Files,
+    I: Source,
+    O: Sink,
+    N: Sink,
+    G: Gate + Sync,
+>(
+    rt: &R,
+    alloc: Global,
+    words: &[String],
+    files: &mut F,
+    input: &mut I,
+    out: &mut O,
+    notes: &mut N,
+    gate: &G,
+    histories: &mut Vec<Entries>,
+) -> Served
+    ensures served { let request = request_of (map string_bytes words.now) in
+        IsServed request (known_of F.Files I.Source request files.old input.old)
+        (sinks_of O.Sink N.Sink out.old notes.old) (sinks_of O.Sink N.Sink out.new notes.new) result }
+    ensures reads { ReadsInOrder F.Files I.Source (request_of (map string_bytes words.now)) files.old files.new input.old input.new result.answer }
+    ensures held { F.contents files.new ≡ F.contents files.old }
+    ensures items { histories.new.items ≡ histories.old.items }
+    ensures room { IsSome result.history → vec_len histories.new < vec_capacity histories.new }
+{
+    match read_request(alloc, words, histories) {
+        Ok(request) if asks_for_workers(&request) => {
+            serve_with_workers(rt, alloc, &request, files, input, out, notes, gate)
+        }
+        Ok(request) => serve_request(alloc, &request, files, input, out, notes),
+        Err(answer) => plain(answer),
+    }
+}
+
+/// All but the end of a call, on one thread. None where the words ask for more.
 fn serve_words<F: Files, I: Source, O: Sink, N: Sink>(
     alloc: Global,
     words: &[String],
@@ -94,17 +187,34 @@ fn serve_words<F: Files, I: Source, O: Sink, N: Sink>(
     ensures items { histories.new.items ≡ histories.old.items }
     ensures room { IfSome result (λ served. IsSome served.history → vec_len histories.new < vec_capacity histories.new) }
 {
+    match read_request(alloc, words, histories) {
+        Ok(request) if asks_for_workers(&request) => None,
+        Ok(request) => Some(serve_request(alloc, &request, files, input, out, notes)),
+        Err(answer) => Some(plain(answer)),
+    }
+}
+
+/// The request of the words. There is room for the history that goes with its answer.
+///
+/// # Errors
+/// `Usage` where the words are no call of the program, and `NoMemory`.
+fn read_request<'a>(
+    alloc: Global,
+    words: &'a [String],
+    histories: &mut Vec<Entries>,
+) -> Result<Request<'a>, Answer>
+    ensures request { IsRequest (request_of (map string_bytes words.now)) result }
+    ensures items { histories.new.items ≡ histories.old.items }
+    ensures room { IfOk result (λ r. IsTrue (promise_of r.task).has_tracks → vec_len histories.new < vec_capacity histories.new) }
+{
     let request = match read_words(alloc, words) {
         Ok(request) => request,
-        Err(WordsFault::Usage) => return Some(plain(Answer::Usage)),
-        Err(WordsFault::NoMemory) => return Some(plain(Answer::NoMemory)),
+        Err(WordsFault::Usage) => return Err(Answer::Usage),
+        Err(WordsFault::NoMemory) => return Err(Answer::NoMemory),
     };
-    if asks_for_workers(&request) {
-        return None;
-    }
     match make_room(histories, request.task) {
-        Ok(()) => Some(serve_request(alloc, &request, files, input, out, notes)),
-        Err(NoMemory) => Some(plain(Answer::NoMemory)),
+        Ok(()) => Ok(request),
+        Err(NoMemory) => Err(Answer::NoMemory),
     }
 }
 

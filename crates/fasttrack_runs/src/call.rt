@@ -3,16 +3,17 @@
 use crate::fault::Fault;
 use crate::run::{Failing, Run};
 use basic_types::Bytes;
-use board_events::entry_text;
-use fasttrack_program::{Answer, Histories, plain_main, status};
+use board_events::{Entry, entry_text, read_entry};
+use fasttrack_program::{Answer, Histories, fasttrack_main, status};
 use host_io::{MemoryFiles, MemorySink, MemorySource};
-use std::alloc::{AllocError, Global};
+use std::alloc::Global;
+use std::rt::Clock;
+use std::sync::Wait;
+use std::thread::Threads;
+use worker_gate::Open;
 
 /// How many bytes each sink has room for.
 const ROOM: usize = 1 << 22;
-
-/// What `main` of the program answers where there is no answer.
-const WORKERS: u8 = 253;
 
 /// What came of a call.
 #[derive(Drop)]
@@ -68,25 +69,38 @@ fn objects_of(alloc: Global, run: &Run, failing: Failing<'_>) -> Result<Objects,
     })
 }
 
-fn answer_of(alloc: Global, words: &[String], objects: &mut Objects) -> Option<Answer> {
-    plain_main(
+fn answer_of<R: Threads + Wait + Clock + Sync>(
+    rt: &R,
+    alloc: Global,
+    words: &[String],
+    objects: &mut Objects,
+) -> Answer {
+    fasttrack_main(
+        rt,
         alloc,
         words,
         &mut objects.files,
         &mut objects.input,
         &mut objects.out,
         &mut objects.notes,
+        &Open,
         &mut objects.told,
     )
 }
 
-/// Calls the program with what a run gives it, where these calls of its objects fail.
-pub fn call(alloc: Global, run: &Run, failing: Failing<'_>) -> Result<Got, Fault> {
+/// Calls the program with these words and with what a run gives it, where these calls of its objects fail.
+pub fn call<R: Threads + Wait + Clock + Sync>(
+    rt: &R,
+    alloc: Global,
+    run: &Run,
+    words: &[String],
+    failing: Failing<'_>,
+) -> Result<Got, Fault> {
     let mut objects = objects_of(alloc, run, failing)?;
-    let answer = answer_of(alloc, run.words.as_slice(), &mut objects);
+    let answer = answer_of(rt, alloc, words, &mut objects);
     Ok(Got {
-        answer: answer_text(alloc, answer)?,
-        status: answer.map_or(WORKERS, |answer| status(&answer)),
+        answer: format!(in alloc; "{answer:?}")?,
+        status: status(&answer),
         out: Vec::from_slice(alloc, objects.out.written())?,
         notes: Vec::from_slice(alloc, objects.notes.written())?,
         histories: objects.told.as_slice().len(),
@@ -94,21 +108,28 @@ pub fn call(alloc: Global, run: &Run, failing: Failing<'_>) -> Result<Got, Fault
     })
 }
 
-/// The lines of all histories.
+/// The lines of all histories, each of which is read back as its entry.
 fn text_of(alloc: Global, told: &Histories) -> Result<String, Fault> {
     let mut text = String::new(alloc);
     for history in told.as_slice() {
         for entry in history.as_slice() {
-            text.push_str(entry_text(alloc, entry)?.as_str())?;
+            text.push_str(line_of(alloc, entry)?.as_str())?;
         }
     }
     Ok(text)
 }
 
-/// An answer as Rust writes it, and nothing where the words ask for workers.
-fn answer_text(alloc: Global, answer: Option<Answer>) -> Result<String, AllocError> {
-    match answer {
-        Some(answer) => format!(in alloc; "{answer:?}"),
-        None => Ok(String::new(alloc)),
+/// The line of an entry.
+///
+/// # Errors
+/// `Unreadable` where reading the line doesn't give the entry back.
+fn line_of(alloc: Global, entry: &Entry) -> Result<String, Fault> {
+    let line = entry_text(alloc, entry)?;
+    let Some(text) = line.strip_suffix('\n') else {
+        return Err(Fault::Unreadable);
+    };
+    match read_entry(text) {
+        Some(read) if read == *entry => Ok(line),
+        _ => Err(Fault::Unreadable),
     }
 }

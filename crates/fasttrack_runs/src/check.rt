@@ -4,6 +4,9 @@ use crate::call::{Got, call};
 use crate::each::check_each;
 use crate::fault::Fault;
 use crate::run::Run;
+use std::rt::Clock;
+use std::sync::Wait;
+use std::thread::Threads;
 
 /// What must come of a call.
 #[derive(Clone, Copy)]
@@ -14,21 +17,43 @@ pub struct Wanted<'a> {
     pub histories: usize,
 }
 
-/// Makes a run, and prints its name and `ok`, or what differs.
-pub fn check_run(rt: &(impl Print + AllocGlobal), run: &Run) -> Result<(), Fault> {
+/// Makes a run as its words say, or with each of its numbers of workers. Prints its name and `ok`, or what differs.
+pub fn check_run<R: Print + AllocGlobal + Threads + Wait + Clock + Sync>(
+    rt: &R,
+    run: &Run,
+) -> Result<(), Fault> {
     let name = run.name.as_str();
     let Some(wanted) = wanted_of(run) else {
         println!(rt; "{name} has no status")?;
         return Ok(());
     };
-    let got = call(rt.alloc(), run, run.failing())?;
-    if is_as_wanted(rt, name, &got, wanted)?
-        && is_told(rt, run, &got)?
-        && check_each(rt, run, wanted)?
-    {
+    let mut all = true;
+    if run.workers.is_empty() {
+        all = check_call(rt, run, run.words.as_slice(), wanted)?;
+    }
+    for workers in run.workers.iter() {
+        let words = run.words_with(rt.alloc(), workers.as_str())?;
+        all = check_call(rt, run, words.as_slice(), wanted)? && all;
+    }
+    if all {
         println!(rt; "{name} ok")?;
     }
     Ok(())
+}
+
+/// Whether the call with these words gives what it must. What differs is printed.
+fn check_call<R: Print + AllocGlobal + Threads + Wait + Clock + Sync>(
+    rt: &R,
+    run: &Run,
+    words: &[String],
+    wanted: Wanted<'_>,
+) -> Result<bool, Fault> {
+    let got = call(rt, rt.alloc(), run, words, run.failing())?;
+    Ok(
+        is_as_wanted(rt, run.name.as_str(), &got, wanted)?
+            && is_told(rt, run, &got)?
+            && check_each(rt, run, words, wanted)?,
+    )
 }
 
 fn wanted_of(run: &Run) -> Option<Wanted<'_>> {

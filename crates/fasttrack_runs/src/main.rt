@@ -16,6 +16,9 @@ use crate::fault::Fault;
 use crate::run::Run;
 use std::alloc::Global;
 use std::collections::BTreeMap;
+use std::rt::Clock;
+use std::sync::Wait;
+use std::thread::Threads;
 use std::{env, fs};
 
 fn main(rt: HostRuntime) -> Result<(), Fault> {
@@ -28,8 +31,8 @@ fn main(rt: HostRuntime) -> Result<(), Fault> {
 }
 
 /// Reads the blocks of a table in their order, and makes each run where it stands. A block that can't be read is printed.
-fn make_runs(
-    rt: &(impl Print + AllocGlobal),
+fn make_runs<R: Print + AllocGlobal + Threads + Wait + Clock + Sync>(
+    rt: &R,
     blocks: &mut Blocks,
     table: &str,
 ) -> Result<(), Fault> {

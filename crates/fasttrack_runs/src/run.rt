@@ -20,6 +20,8 @@ pub struct Run {
     pub name: String,
     /// The words behind the program's own name.
     pub words: Vec<String>,
+    /// The numbers of workers for each of which it is made, where they are told.
+    pub workers: Vec<String>,
     /// The file `g`.
     pub file: Vec<u8>,
     pub input: Vec<u8>,
@@ -47,6 +49,8 @@ pub struct Run {
 pub enum Each {
     Neither,
     Out,
+    /// `out`, however many calls it gets.
+    Beginning,
     Notes,
 }
 
@@ -56,6 +60,7 @@ impl Run {
         Ok(Run {
             name: String::from_str(alloc, name)?,
             words: Vec::new(alloc),
+            workers: Vec::new(alloc),
             file: Vec::new(alloc),
             input: Vec::new(alloc),
             failing_files: Vec::new(alloc),
@@ -71,6 +76,17 @@ impl Run {
             history: Pieces::new(alloc),
             counts: Vec::new(alloc),
         })
+    }
+
+    /// The words with so many workers.
+    pub fn words_with(&self, alloc: Global, workers: &str) -> Result<Vec<String>, Fault> {
+        let mut words = Vec::new(alloc);
+        for word in self.words.iter() {
+            words.push(String::from_str(alloc, word.as_str())?)?;
+        }
+        words.push(String::from_str(alloc, "--workers")?)?;
+        words.push(String::from_str(alloc, workers)?)?;
+        Ok(words)
     }
 
     /// Which calls of each object fail.
@@ -104,6 +120,7 @@ impl Run {
         let (key, rest) = split_word(line);
         match key {
             "words" => read_words(alloc, &mut self.words, rest),
+            "workers" => read_words(alloc, &mut self.workers, rest),
             "file" => append_line(alloc, blocks, &mut self.file, rest),
             "input" => append_line(alloc, blocks, &mut self.input, rest),
             "fails" => self.read_failing(rest),
@@ -150,6 +167,7 @@ impl Run {
     fn read_each(&mut self, sink: &str) -> Result<(), Fault> {
         self.each = match sink {
             "out" => Each::Out,
+            "beginning" => Each::Beginning,
             "notes" => Each::Notes,
             _ => return Err(Fault::Unreadable),
         };

@@ -182,7 +182,7 @@ values_hold names old new made (inr kept) whole f used parse placed =
     let is = is_command names old new made kept.2 in
     let parsed = parse (no_globals names new is) in
     let tracks = number_there names new is f used parsed (codes "tracks") (λ e. cc) 1 32 (omega arith) refl refl in
-    let workers = number_there names new is f used parsed (codes "workers") (λ e. cc) 0 0 (omega arith) refl refl in
+    let workers = number_there names new is f used parsed (codes "workers") (λ e. cc) 0 64 (omega arith) refl refl in
     let budget = number_there names new is f used parsed (codes "budget") (λ e. cc) 1 1099511627776 (omega arith) refl refl in (
       (
         text_there names new is f used parsed (codes "COMMAND") (λ e. cc) refl refl placed.0,

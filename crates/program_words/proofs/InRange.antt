@@ -76,8 +76,8 @@ module _ (words : List Text) (none : fault_of command words ≡ []) where
   tracks_between = number_between (codes "tracks") 1 32 (codes "4")
       (λ e. cc, (λ e. cc, (λ e. refl, (λ e. cc, (λ e. cc, (λ e. cc, (λ e. cc, (λ e. cc, (λ e. cc, tt))))))))) (inr (inr (inl refl))) (omega arith, omega arith)
 
-  workers_between : (0 ≤ number_at (codes "workers") (matches_of command words)) × (number_at (codes "workers") (matches_of command words) ≤ 0)
-  workers_between = number_between (codes "workers") 0 0 (codes "0")
+  workers_between : (0 ≤ number_at (codes "workers") (matches_of command words)) × (number_at (codes "workers") (matches_of command words) ≤ 64)
+  workers_between = number_between (codes "workers") 0 64 (codes "3")
       (λ e. cc, (λ e. cc, (λ e. cc, (λ e. refl, (λ e. cc, (λ e. cc, (λ e. cc, (λ e. cc, (λ e. cc, tt))))))))) (inr (inr (inr (inl refl)))) (omega arith, omega arith)
 
   budget_between : (1 ≤ number_at (codes "budget") (matches_of command words)) × (number_at (codes "budget") (matches_of command words) ≤ 1099511627776)
@@ -137,7 +137,7 @@ in_range words request e = go (fault_of command words) refl e
         subst IsInRange same (record {
           least_tracks = tracks.0;
           most_tracks = tracks.1;
-          workers = omega (arith, workers.1);
+          most_workers = workers.1;
           least_budget = budget.0;
           most_budget = budget.1;
           task = short_task (value_of (codes "COMMAND") rows) (value_of (codes "IMAGE") rows) task is;

@@ -52,9 +52,9 @@ option_rule name parser default = record (new_rule name) {
 abbrev pub tracks_rule : Rule
 tracks_rule = option_rule (codes "tracks") (Unsigned 1 32) (codes "4")
 
--- `--workers` with the number 0, since no workers stand yet
+-- `--workers` with a number from 0 to 64, by default 3
 abbrev pub workers_rule : Rule
-workers_rule = option_rule (codes "workers") (Unsigned 0 0) (codes "0")
+workers_rule = option_rule (codes "workers") (Unsigned 0 64) (codes "3")
 
 -- `--budget` with a number from 1 to 2^40, which is also its default
 abbrev pub budget_rule : Rule
@@ -187,11 +187,11 @@ HasShortNumber Run = Unit {0}
 HasShortNumber Trial = Unit {0}
 HasShortNumber (Bench number) = number < 2 ^ 32
 
--- the numbers of a request are in the ranges of its options; there are no workers yet
+-- the numbers of a request are in the ranges of its options
 pub record IsInRange (r : Request) : Type 0 where
   pub least_tracks : 1 ≤ r.tracks
   pub most_tracks : r.tracks ≤ 32
-  pub workers : r.workers ≡ 0
+  pub most_workers : r.workers ≤ 64
   pub least_budget : 1 ≤ r.budget
   pub most_budget : r.budget ≤ 2 ^ 40
   pub task : HasShortNumber r.task

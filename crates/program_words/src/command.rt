@@ -55,8 +55,12 @@ fn workers_arg<'a>(alloc: Global) -> Arg<'a>
     ensures rule { rule_of result ≡ workers_rule }
     ensures local { result.global ≡ false }
 {
-    // No workers stand yet.
-    option_arg(alloc, "workers", clap::value_parser!(u64).range(0..=0), "0")
+    option_arg(
+        alloc,
+        "workers",
+        clap::value_parser!(u64).range(0..=64),
+        "3",
+    )
 }
 
 fn budget_arg<'a>(alloc: Global) -> Arg<'a>

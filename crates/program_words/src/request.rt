@@ -31,7 +31,7 @@ pub struct Request<'a> {
     pub image: &'a str,
     /// `--tracks`: the most regions that are open at once, from 1 to 32
     pub tracks: u64,
-    /// `--workers`: the number of worker threads, which is 0, since no workers stand yet
+    /// `--workers`: the number of worker threads beside the program's own, from 0 to 64
     pub workers: u64,
     /// `--budget`: the most instructions that the guest runs, from 1 to 2^40
     pub budget: u64,

@@ -18,7 +18,7 @@ fn plain(task: Task, image: &str) -> Request<'_> {
         task,
         image,
         tracks: 4,
-        workers: 0,
+        workers: 3,
         budget: 1 << 40,
         no_input: false,
         report: false,
@@ -65,8 +65,13 @@ fn makes_requests(rt: HostRuntime) -> Result<(), Fail> {
         ("run x --tracks 1", Request { tracks: 1, ..run }),
         (
             "run --tracks=32 --workers 0 x",
-            Request { tracks: 32, ..run },
+            Request {
+                tracks: 32,
+                workers: 0,
+                ..run
+            },
         ),
+        ("run x --workers 64", Request { workers: 64, ..run }),
         (
             "run x --report",
             Request {
@@ -125,7 +130,8 @@ fn refuses_other_words(rt: HostRuntime) -> Result<(), Fail> {
         "run",
         "run x --tracks 0",
         "run x --tracks 33",
-        "run x --workers 1",
+        "run x --workers 65",
+        "run x --workers -1",
         "run x --report=true",
         "run x --journal --journal",
         "bench",

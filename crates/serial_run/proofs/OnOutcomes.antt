@@ -23,7 +23,7 @@ use Rattle.track_board.specs.Value.{Posted, GuestCore, IsKnown, machine_of, star
 use Rattle.track_board.specs.Settles.{Settles, due_of, verified_of, released_with, finish_of, IsOutcome}
 use Rattle.track_board.proofs.Foundation.{core-legal}
 use Rattle.track_board.proofs.Settling.{weight_of}
-use Rattle.serial_run.specs.Conducting.{alone_of, IsSameRun, IsWhole, Conducts}
+use Rattle.serial_run.specs.Conducting.{alone_of, IsSameRun, IsWhole, HasSerialHistory, Conducts}
 use Rattle.serial_run.specs.Rounds.{TakesVerified, SettlesSome, CanLend, RunsSlice, SliceFails, IsUnderway, GoesBy, GoesOn, IsAtEnd, ReleaseFails, LosesSlice, NextFails, Breaks, IsRound, answer_to}
 use Rattle.serial_run.specs.Failures.{ended, IsWritten, AfterWriteFault, AfterNoMemory, AfterFailure}
 use Rattle.serial_run.proofs.Releases.{total-run}
@@ -186,7 +186,7 @@ module _ (u v w : Posted) (s t : Sinks) (fresh : u.entries ≡ []) (known : IsKn
         (before-same h.before h.between h.on (next-extends fault h.before v h.between t h.fails))
 
   -- the whole output of the program breaks off
-  pub failed-conducts : (fault : OutputFault) → Breaks u v s t fault → Conducts w s t (answer_to fault)
+  pub failed-conducts : (fault : OutputFault) → Breaks u v s t fault → Conducts HasSerialHistory w s t (answer_to fault)
   failed-conducts Write h = write-conducts h.before h.between h.on (next-extends Write h.before v h.between t h.fails) h.fails.short
   failed-conducts NoMemory h = memory-conducts h.before h.between h.on (next-extends NoMemory h.before v h.between t h.fails) h.fails.1
 
@@ -218,7 +218,7 @@ module _ (u w : Posted) (s t : Sinks) (o : Outcome) (fresh : u.entries ≡ []) (
   released-whole f complete none =
       sym (append-nil (core_of w).released) ∙ ap (λ (ms : List Mark). (core_of w).released ++ ms) (sym none) ∙ complete.output
 
-  pub on-whole : IsWhole w o × GetsAll s t (output_of (alone_of w))
+  pub on-whole : (IsWhole w o × HasSerialHistory w) × GetsAll s t (output_of (alone_of w))
   on-whole =
       let ended = ended-idle (machine_of w) w.settings (start_state w) (core_of w) (sound-of w known) (solo-of w on.underway) known.limits.some last.idle in
       let complete = law-complete (machine_of w) w.settings (start_state w) w.entries (core_of w) ended.finished (exact-of w) known.legal ended.finish in
@@ -226,17 +226,19 @@ module _ (u w : Posted) (s t : Sinks) (o : Outcome) (fresh : u.entries ≡ []) (
       let whole = released-whole ended.finished complete ended.released in
       let total = total-run (machine_of w) w.settings w.entries (opening (start_state w)) (core_of w) known.legal in
       let bytes : on.bytes ≡ (core_of w).released = sym (on.released ∙ ap (λ (ms : List Mark). ms ++ on.bytes) (released-first u fresh)) in (
-        record {
-          outcome = outcome;
-          serial = serial_so_far-whole (machine_of w) w.settings (start_state w) (exact-of w) w.entries (core_of w) on.underway.so_far known.legal last.idle;
-          finished = found.finished;
-          finish = found.is;
-          end = sym (end_of-core_end found.finished.end) ∙ ap (λ (f : CoreFinished End). end_of f.end) found.same ∙ ap end_of complete.end;
-          count = ap (λ (f : CoreFinished End). f.count) found.same ∙ complete.count;
-          rows = outcome.rows ∙ complete.rows;
-          total = (let same = ap (length {A = Mark}) whole in omega arith);
-          released = ended.released;
-        },
+        (
+          record {
+            outcome = outcome;
+            finished = found.finished;
+            finish = found.is;
+            end = sym (end_of-core_end found.finished.end) ∙ ap (λ (f : CoreFinished End). end_of f.end) found.same ∙ ap end_of complete.end;
+            count = ap (λ (f : CoreFinished End). f.count) found.same ∙ complete.count;
+            rows = outcome.rows ∙ complete.rows;
+            total = (let same = ap (length {A = Mark}) whole in omega arith);
+            released = ended.released;
+          },
+          serial_so_far-whole (machine_of w) w.settings (start_state w) (exact-of w) w.entries (core_of w) on.underway.so_far known.legal last.idle,
+        ),
         subst (GetsAll s t) (bytes ∙ whole) on.written,
       )
 

@@ -32,12 +32,10 @@ released_total [] = 0
 released_total (Release bytes ∷ xs) = bytes + released_total xs
 released_total (x ∷ xs) = released_total xs
 
--- The outcome of a board whose entries are the serial history: its end and count are those of the program alone, its
--- rows are the ledger, its entries released as many bytes as the program alone writes, and nothing verified is left to
--- release.
+-- The outcome of a board that came to its end: its end and count are those of the program alone, its rows are the ledger,
+-- its entries released as many bytes as the program alone writes, and nothing verified is left to release.
 pub record IsWhole (w : Posted) (o : Outcome) : Type 0 where
   pub outcome : IsOutcome w o
-  pub serial : IsSerial (machine_of w) w.settings (start_state w) w.entries
   pub finished : Finished
   pub finish : o.finished ≡ Some finished
   pub end : finished.end ≡ end_of (alone_of w).end
@@ -46,10 +44,15 @@ pub record IsWhole (w : Posted) (o : Outcome) : Type 0 where
   pub total : released_total w.entries ≡ length (output_of (alone_of w))
   pub released : verified_of w ≡ []
 
--- What a conductor answers and leaves: the sinks got both streams of all that the program alone writes, and the outcome
--- is whole; or they got a part of it. Where neither count of faults rose, or could not, the answer is `Done` or
--- `NoMemory`; after `WriteFault` one of them did, at a byte of its stream.
-abbrev pub Conducts : Posted → Sinks → Sinks → Conducted → Type 0
-Conducts w old new (Done o) = IsWhole w o × GetsAll old new (output_of (alone_of w))
-Conducts w old new WriteFault = StopsShort old new (output_of (alone_of w))
-Conducts w old new NoMemory = GetsPart old new (output_of (alone_of w))
+-- the entries of a board are the serial history
+abbrev pub HasSerialHistory : Posted → Type 0
+HasSerialHistory w = IsSerial (machine_of w) w.settings (start_state w) w.entries
+
+-- What a conductor answers and leaves: the sinks got both streams of all that the program alone writes, the outcome is
+-- whole, and the board has a history of the kind that is promised; or the sinks got a part of it. Where neither count of
+-- faults rose, or could not, the answer is `Done` or `NoMemory`; after `WriteFault` one of them did, at a byte of its
+-- stream.
+abbrev pub Conducts : (promised : Posted → Type 0) → Posted → Sinks → Sinks → Conducted → Type 0
+Conducts promised w old new (Done o) = (IsWhole w o × promised w) × GetsAll old new (output_of (alone_of w))
+Conducts promised w old new WriteFault = StopsShort old new (output_of (alone_of w))
+Conducts promised w old new NoMemory = GetsPart old new (output_of (alone_of w))

@@ -4,7 +4,7 @@ ghost use Rattle.std.specs.Prelude.{◌≡◌, [], IsTrue, MatchResult};
 ghost use Rattle.speculation.specs.Core.{over};
 ghost use Rattle.guest_streams.specs.GuestStreams.{WritesPiece, sinks_of};
 ghost use Rattle.track_board.specs.Value.{IsKnown, core_of};
-ghost use Rattle.serial_run.specs.Conducting.{IsSameRun, Conducts};
+ghost use Rattle.serial_run.specs.Conducting.{IsSameRun, HasSerialHistory, Conducts};
 ghost use Rattle.serial_run.specs.Failures.{AfterFailure};
 ghost use Rattle.serial_run.specs.Rounds.{TakesVerified, SettlesSome, CanLend, RunsSlice, SliceFails, IsUnderway, RoundIs, RoundsAre, answer_to};
 
@@ -28,7 +28,7 @@ const SEAT: u64 = 0;
 /// after a fault of a sink: these are lost.
 pub fn conduct_serial<O: Sink, N: Sink>(board: &mut Board, out: &mut O, notes: &mut N) -> Conducted
     requires fresh { board.old.entries ≡ [] }
-    ensures conducts { Conducts board.new
+    ensures conducts { Conducts HasSerialHistory board.new
         (sinks_of O.Sink N.Sink out.old notes.old) (sinks_of O.Sink N.Sink out.new notes.new) result }
     ensures over { IsTrue (over (core_of board.new)) }
     ensures same { IsSameRun board.old board.new }

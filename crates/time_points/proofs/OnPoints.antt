@@ -1,8 +1,7 @@
 -- The view of a count, from the last saved state before it.
 use Rattle.std.proofs.Common.{◌≡◌, ℕ, ◌+◌, ◌-◌, ◌*◌, ◌<◌, ◌≤◌, List, length, map, Some, get_or, Vec, Global, vec_len, sym, ap, ◌∙◌, arith}
-use Rattle.std.specs.Prelude.{slice_get, option_map}
+use Rattle.std.specs.Prelude.{slice_get, slice_set, option_map}
 use Rattle.std.proofs.Math.Seq.{map-set_same}
-use Rattle.std.specs.Prelude.{slice_set}
 use Rattle.std.proofs.lemmas.List.{length-map}
 use Rattle.std.proofs.lemmas.Option.{slice_get-map, slice_get_read}
 use Rattle.speculation.specs.Record.{run}
@@ -17,7 +16,7 @@ use Rattle.time_points.specs.View.{IsViewOf}
 use Rattle.time_points.proofs.OnSaved.{saved-at, saved-place, saved-ends}
 use Rattle.time_points.proofs.OnViews.{view-behind, count-upto}
 
--- a second state like one of the list, in its place, changes nothing of what the list stands for
+-- a state with the same content, in the place of one of the list, changes nothing of what the list stands for
 pub same-states : (xs : List (State PagedImage)) (k : ℕ) (x y : State PagedImage) → x ≡ get_or xs k x → flat_state y ≡ flat_state x → map flat_state (slice_set xs k y) ≡ map flat_state xs
 same-states xs k x y at same = map-set_same flat_state xs k y x (same ∙ ap flat_state at)
 

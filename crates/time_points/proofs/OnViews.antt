@@ -1,10 +1,10 @@
 -- Views of a count, by the points of the run.
 use Rattle.std.proofs.Common.{◌≡◌, ◌≢◌, ℕ, suc, ◌+◌, ◌-◌, ◌<◌, ◌≤◌, false, List, Option, Some, None, unwrap_or, refl, sym, ap, ◌∙◌, inl, inr, add-one, arith}
 use Rattle.std.proofs.lemmas.Bool.{cases_lt}
-use Rattle.speculation.specs.Machine.{Next, Ends}
+use Rattle.speculation.specs.Machine.{Ends}
 use Rattle.speculation.specs.Run.{Point, fresh, go, taken}
 use Rattle.speculation.specs.Record.{run}
-use Rattle.speculation.proofs.Runs.{go-add, go-stays, go-next, go-ends, taken-add, taken-stays, taken-going, taken-ends, taken-le}
+use Rattle.speculation.proofs.Runs.{go-add, go-ends, taken-add, taken-stays, taken-going, taken-ends, taken-le}
 use Rattle.speculation.proofs.Records.{end-alone, last-alone, count-alone}
 use Rattle.guest_model.specs.MachineState.{MachineState}
 use Rattle.guest_model.specs.Rv32.{rv32}
@@ -14,18 +14,11 @@ use Rattle.guest_model.specs.declared.end.End.TheVariants.{Spent}
 use Rattle.guest_model.specs.declared.state.State.{State}
 use Rattle.paged_image.specs.declared.image.PagedImage.{PagedImage}
 use Rattle.track_state.specs.Kept.{flat_state}
+use Rattle.track_state.proofs.OnPlain.{go-met, go-spent}
 use Rattle.time_points.specs.View.{IsViewOf}
 use Rattle.time_points.specs.declared.view.View.{View}
 
 module _ (input : List ℕ) (s : MachineState) where
-  pub go-none : go (rv32 input) (fresh s) 0 ≡ fresh s
-  unfolding go
-  go-none = refl
-
-  -- one instruction more
-  pub go-more : (n : ℕ) (t u : MachineState) (stream : ℕ) (bytes : List ℕ) → go (rv32 input) (fresh s) n ≡ fresh t → step false input t ≡ Next u stream bytes → go (rv32 input) (fresh s) (n + 1) ≡ fresh u
-  go-more n t u stream bytes here goes = rw add-one (go-next (rv32 input) (fresh s) n t u stream bytes here goes)
-
   -- where the program still runs, one instruction more is taken
   pub count-more : (n count : ℕ) (t : MachineState) → go (rv32 input) (fresh s) n ≡ fresh t → n < count → n + 1 ≤ (run (rv32 input) s count).count
   count-more n count t here less =
@@ -43,17 +36,6 @@ module _ (input : List ℕ) (s : MachineState) where
     end = end ∙ sym (ap (λ o. unwrap_or o Spent) (end-alone (rv32 input) s count ∙ ap (λ (q : Point MachineState End). q.end) at));
   }
 
-  pub go-spent : (n count : ℕ) (t : MachineState) → go (rv32 input) (fresh s) n ≡ fresh t → n ≡ count → go (rv32 input) (fresh s) count ≡ fresh t
-  go-spent n count t here same = ap (go (rv32 input) (fresh s)) (sym same) ∙ here
-
-  -- Nothing follows the instruction that ends the program, which began in state u and left it as it was.
-  pub go-met : (n count : ℕ) (u t : MachineState) (e : End) → go (rv32 input) (fresh s) n ≡ fresh u → step false input u ≡ Ends e → t ≡ u → n < count → go (rv32 input) (fresh s) count ≡ record { state = t; end = Some e }
-  go-met n count u t e here ends same less =
-      let rest = count - suc n in
-      let whole : count ≡ suc n + rest = omega arith in
-      let last : go (rv32 input) (fresh s) (suc n) ≡ record { state = u; end = Some e } = go-ends (rv32 input) (fresh s) n u e here ends in
-      ap (go (rv32 input) (fresh s)) whole ∙ go-stays (rv32 input) (fresh s) (suc n) rest e (ap (λ (q : Point MachineState End). q.end) last) ∙ last ∙ ap (λ (v : MachineState). record { state = v; end = Some e }) (sym same)
-
   taken-met : (n count : ℕ) (u : MachineState) (e : End) → go (rv32 input) (fresh s) n ≡ fresh u → step false input u ≡ Ends e → n < count → taken (rv32 input) (fresh s) count ≡ suc n
   taken-met n count u e here ends less =
       let rest = count - suc n in
@@ -65,18 +47,18 @@ module _ (input : List ℕ) (s : MachineState) where
   pub view-ended : (n count : ℕ) (u : MachineState) (t : State PagedImage) (e : End) → go (rv32 input) (fresh s) n ≡ fresh u → step false input u ≡ Ends e → flat_state t ≡ u → n < count
       → IsViewOf input s count (record { state = t; taken = n + 1; end = e })
   view-ended n count u t e here ends same less =
-      view-by count (record { state = flat_state t; end = Some e }) (record { state = t; taken = n + 1; end = e }) (go-met n count u (flat_state t) e here ends same less) (taken-met n count u e here ends less ∙ sym (add-one n)) refl refl
+      view-by count (record { state = flat_state t; end = Some e }) (record { state = t; taken = n + 1; end = e }) (go-met input s n count u (flat_state t) e here ends same less) (taken-met n count u e here ends less ∙ sym (add-one n)) refl refl
 
   -- the view where the program still runs
   pub view-spent : (n count : ℕ) (t : State PagedImage) → go (rv32 input) (fresh s) n ≡ fresh (flat_state t) → n ≡ count → IsViewOf input s count (record { state = t; taken = count; end = Spent })
   view-spent n count t here same =
-      let at : go (rv32 input) (fresh s) count ≡ fresh (flat_state t) = go-spent n count (flat_state t) here same in
+      let at : go (rv32 input) (fresh s) count ≡ fresh (flat_state t) = go-spent input s n count (flat_state t) here same in
       view-by count (fresh (flat_state t)) (record { state = t; taken = count; end = Spent }) at (taken-going (rv32 input) (fresh s) count (ap (λ (q : Point MachineState End). q.end) at)) refl refl
 
   -- all instructions were taken where the program still runs
   pub count-spent : (n count : ℕ) (t : MachineState) → go (rv32 input) (fresh s) n ≡ fresh t → n ≡ count → (run (rv32 input) s count).count ≡ count
   count-spent n count t here same =
-      let at : go (rv32 input) (fresh s) count ≡ fresh t = go-spent n count t here same in
+      let at : go (rv32 input) (fresh s) count ≡ fresh t = go-spent input s n count t here same in
       count-alone (rv32 input) s count ∙ taken-going (rv32 input) (fresh s) count (ap (λ (q : Point MachineState End). q.end) at)
 
 -- ---- a view from a point on the way

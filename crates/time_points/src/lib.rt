@@ -2,7 +2,6 @@
 //! taken from the saved state before it.
 #![tactic(auto)]
 
-mod advance;
 mod counted;
 mod points;
 mod save;

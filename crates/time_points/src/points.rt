@@ -2,7 +2,7 @@
 
 ghost use Rattle.std.specs.Prelude.{◌<◌};
 
-use crate::save::{save_states, second};
+use crate::save::{save_states, snapshot_of};
 use crate::view::View;
 use basic_types::{NoMemory, Steps};
 use guest_model::State;
@@ -83,7 +83,7 @@ impl Points {
     {
         let point = self.point_before(count);
         let from = point as u64 * self.every;
-        let saved = second(&mut self.saved[point])?;
+        let saved = snapshot_of(&mut self.saved[point])?;
         let view = View::of(saved, count - from, input, steps)?;
         let View { state, taken, end } = view;
         Ok(View {

@@ -4,19 +4,19 @@ ghost use Rattle.std.specs.Prelude.{◌≡◌, ◌*◌, ◌<◌, ◌≤◌, leng
 ghost use Rattle.track_state.specs.Kept.{flat_state};
 ghost use Rattle.time_points.specs.Saved.{AreSaved};
 
-use crate::advance::run_on;
 use basic_types::NoMemory;
 use guest_model::State;
 use paged_image::PagedImage;
 use std::alloc::Global;
+use track_state::run_plain;
 
-/// A second state like this one. Both share all pages, so that what is stored later in one is not seen in the other.
+/// A snapshot of this state. Both share all pages, so that what is stored later in one is not seen in the other.
 ///
 /// # Errors
 /// `NoMemory` where there is no room for it.
-pub fn second(state: &mut State<PagedImage>) -> Result<State<PagedImage>, NoMemory>
+pub fn snapshot_of(state: &mut State<PagedImage>) -> Result<State<PagedImage>, NoMemory>
     ensures same { flat_state state.new ≡ flat_state state.old }
-    ensures second { IfOk result (λ t. flat_state t ≡ flat_state state.old) }
+    ensures snapshot { IfOk result (λ t. flat_state t ≡ flat_state state.old) }
 {
     let memory = state.memory.snapshot()?;
     Ok(State {
@@ -45,14 +45,14 @@ pub fn save_states(
 {
     let mut state = start;
     let mut saved = Vec::new(alloc);
-    let first = second(&mut state)?;
+    let first = snapshot_of(&mut state)?;
     saved.push(first)?;
     for _point in 0..greatest / every {
-        let end = run_on(&mut state, input, every)?;
+        let end = run_plain(&mut state, input, every)?;
         if end.is_some() {
             return Ok(saved);
         }
-        let next = second(&mut state)?;
+        let next = snapshot_of(&mut state)?;
         saved.push(next)?;
     }
     Ok(saved)

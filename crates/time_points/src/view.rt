@@ -26,7 +26,7 @@ pub struct View {
 impl View {
     ghost use Rattle.time_points.specs.View.{IsViewOf};
 
-    /// The view of `count` instructions from `start` on.
+    /// The view of `count` instructions from `start` on. What they write is dropped.
     ///
     /// # Errors
     /// `NoMemory` where there is no room for a page that the program writes.

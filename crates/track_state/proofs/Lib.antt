@@ -1,5 +1,6 @@
 pub mod OnComparison
 pub mod OnPages
+pub mod OnPlain
 pub mod OnProgress
 pub mod OnQuiet
 pub mod OnRunCalls

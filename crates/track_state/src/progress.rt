@@ -108,10 +108,10 @@ fn boundary_call(kind: Kind) -> u32
     }
 }
 
-/// Takes the instruction at pc. Apart from `advance`, so that its loop stays short.
+/// Takes the instruction at pc. Apart from the loops of runs, so that they stay short.
 #[cold]
 #[inline(never)]
-fn take(state: &mut TrackState, input: &[u8]) -> Stepped
+pub fn take(state: &mut TrackState, input: &[u8]) -> Stepped
     requires { state.old.place ≤ length input.now }
     ensures means { let old = flat_state state.old in Steps true (step false input.now old) old (flat_state state.new) result }
     ensures place { state.new.place ≤ length input.now }

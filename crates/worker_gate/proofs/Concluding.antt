@@ -1,7 +1,6 @@
 -- What the sinks got of the program's output when a conductor is done, and the outcome.
 use Rattle.std.proofs.Common.{◌≡◌, ℕ, ◌+◌, ◌≤◌, List, [], ◌∷◌, ◌++◌, length, is_some, true, Option, Some, None, refl, sym, ap, ◌∙◌, subst, append_assoc, append-nil, arith}
 use Rattle.speculation.specs.declared.history.Entry.{Entry}
-use Rattle.speculation.specs.declared.history.Entry.TheVariants.{Lend}
 use Rattle.speculation.specs.Run.{Mark}
 use Rattle.speculation.specs.Record.{output_of}
 use Rattle.speculation.specs.Core.{opening}
@@ -18,7 +17,7 @@ use Rattle.track_board.specs.Value.{Posted, IsKnown, machine_of, start_state, co
 use Rattle.track_board.specs.Settles.{verified_of, finish_of}
 use Rattle.serial_run.specs.declared.conducted.Conducted.{Conducted}
 use Rattle.serial_run.specs.declared.conducted.Conducted.TheVariants as C
-use Rattle.serial_run.specs.Conducting.{alone_of}
+use Rattle.serial_run.specs.Conducting.{alone_of, IsWhole, Conducts}
 use Rattle.serial_run.specs.Rounds.{answer_to}
 use Rattle.serial_run.proofs.Releases.{total-run}
 use Rattle.serial_run.proofs.OnRounds.{exact-of}
@@ -26,8 +25,10 @@ use Rattle.serial_run.proofs.OnOutcomes.{released-first, end_of-core_end}
 use Rattle.worker_gate.specs.declared.kinds.Round.{Round}
 use Rattle.worker_gate.specs.Seats.{BoardPass, seen_of}
 use Rattle.worker_gate.specs.Rounds.{RoundIs}
-use Rattle.worker_gate.specs.Conducting.{Hands, IsClosed, SeatsBelow, BreaksOff, Concludes, IsWhole, Conducts}
+use Rattle.worker_gate.specs.Conducting.{Hands, IsClosed, BreaksOff, Concludes}
+use Rattle.worker_gate.specs.Histories.{SeatsBelow, HasWorkedHistory}
 use Rattle.worker_gate.proofs.Leading.{round-released}
+use Rattle.worker_gate.proofs.OnHistories.{seats-more}
 
 -- ---- the sinks got what was released
 
@@ -71,7 +72,7 @@ pub output-part : (w : Posted) (s t : Sinks) → IsKnown w → GetsAll s t (core
 output-part w s t known h = (let parts = output-parts w known in subst (GetsPart s t) parts.1 (GetsPart-of s t (core_of w).released parts.0 h))
 
 -- a run that broke off
-pub led-conducts : (workers : ℕ) (w : Posted) (s t : Sinks) (fault : OutputFault) → IsKnown w → BreaksOff w s t fault → Conducts workers w s t (answer_to fault)
+pub led-conducts : (workers : ℕ) (w : Posted) (s t : Sinks) (fault : OutputFault) → IsKnown w → BreaksOff w s t fault → Conducts (HasWorkedHistory workers) w s t (answer_to fault)
 led-conducts workers w s t F.Write known h = output-short w s t known h
 led-conducts workers w s t F.NoMemory known h = output-part w s t known h
 
@@ -96,12 +97,11 @@ module _ (w : Posted) (o : Outcome) (known : IsKnown w) (closed : IsClosed w o) 
   released-whole : (core_of w).released ≡ output_of (alone_of w)
   released-whole = sym (append-nil (core_of w).released) ∙ ap (λ (ms : List Mark). (core_of w).released ++ ms) (sym closed.released) ∙ complete.output
 
-  pub whole : (workers : ℕ) → SeatsBelow (workers + 1) w.entries → IsWhole workers w o
-  whole workers seats =
+  pub whole : IsWhole w o
+  whole =
       let total = total-run (machine_of w) w.settings w.entries (opening (start_state w)) (core_of w) known.legal in
       record {
         outcome = closed.outcome;
-        seats = seats;
         finished = finished;
         finish = finish-is;
         end = sym (end_of-core_end finished.end) ∙ ap end_of complete.end;
@@ -111,18 +111,16 @@ module _ (w : Posted) (o : Outcome) (known : IsKnown w) (closed : IsClosed w o) 
         released = closed.released;
       }
 
+  pub worked : (workers : ℕ) → SeatsBelow (workers + 1) w.entries → HasWorkedHistory workers w
+  worked workers seats = record { core = core_of w; legal = known.legal; finished = ap is_some (sym closed.outcome.finish ∙ ap finish_of finish-is); seats = seats }
+
   pub whole-output : (s t : Sinks) → GetsAll s t (core_of w).released → GetsAll s t (output_of (alone_of w))
   whole-output s t h = subst (GetsAll s t) released-whole h
 
-pub seats-more : (few most : ℕ) (xs : List Entry) → few ≤ most → SeatsBelow few xs → SeatsBelow most xs
-seats-more few most [] le h = tt
-seats-more few most (Lend seat n ∷ xs) le h = ((let lt = h.0 in omega arith), seats-more few most xs le h.1)
-seats-more few most (x ∷ xs) le h = seats-more few most xs le h
-
 -- what the last turn answers is what the whole run does
-pub concludes-conducts : (workers stock : ℕ) (v w : Posted) (s t u : Sinks) (r : Conducted) → stock ≤ workers + 1 → IsKnown w → GetsAll s t (core_of v).released → Concludes stock v w t u r → Conducts workers w s u r
+pub concludes-conducts : (workers stock : ℕ) (v w : Posted) (s t u : Sinks) (r : Conducted) → stock ≤ workers + 1 → IsKnown w → GetsAll s t (core_of v).released → Concludes stock v w t u r → Conducts (HasWorkedHistory workers) w s u r
 concludes-conducts workers stock v w s t u (C.Done o) le known so_far h =
-    (whole w o known h.1 workers (seats-more stock (workers + 1) w.entries le h.2), whole-output w o known h.1 s u (led-more v w s t u h.0.0 so_far h.0.1 h.0.2))
+    ((whole w o known h.1, worked w o known h.1 workers (seats-more stock (workers + 1) w.entries le h.2)), whole-output w o known h.1 s u (led-more v w s t u h.0.0 so_far h.0.1 h.0.2))
 concludes-conducts workers stock v w s t u C.WriteFault le known so_far h = output-short w s u known (led-short v w s t u h.0 so_far h.1 h.2)
 concludes-conducts workers stock v w s t u C.NoMemory le known so_far h =
     let parts = output-parts w known in

@@ -25,7 +25,8 @@ use Rattle.worker_gate.specs.declared.releases.Verified.{Verified}
 use Rattle.worker_gate.specs.declared.releases.Closed.{Closed}
 use Rattle.worker_gate.specs.Seats.{BoardPass, seen_of, is_seat, own_entries, own_loans, seat_count, Goes, Halts, ActsAlone}
 use Rattle.worker_gate.specs.Rounds.{Ends, HaltsInRound, HaltedFirst, HaltedByLoss, HaltedLast, RoundIs}
-use Rattle.worker_gate.specs.Conducting.{Hands, HandsOut, IsClosed, Takes, Closes, SeatsBelow}
+use Rattle.worker_gate.specs.Conducting.{Hands, HandsOut, IsClosed, Takes, Closes}
+use Rattle.worker_gate.specs.Histories.{SeatsBelow}
 use Rattle.worker_gate.proofs.Going.{goes-foreign}
 use Rattle.worker_gate.proofs.OwnLoans.{goes-loans, loans-append}
 use Rattle.worker_gate.proofs.OnActs.{alone-then, alone-settle}

@@ -2,6 +2,7 @@ pub mod Going
 pub mod OnActs
 pub mod OnTurns
 pub mod OwnLoans
+pub mod OnHistories
 pub mod Leading
 pub mod Concluding
 pub mod Working

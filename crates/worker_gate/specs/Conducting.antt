@@ -1,32 +1,21 @@
 -- What a conductor with workers does, and what the two sinks get by it
-use Rattle.std.specs.Prelude.{◌≡◌, ℕ, ◌+◌, ◌<◌, true, List, [], ◌∷◌, ◌++◌, length, Some, IsSome, Result, Ok, Err}
+use Rattle.std.specs.Prelude.{◌≡◌, ℕ, true, List, [], ◌++◌, IsSome, Result, Ok, Err}
 use Rattle.speculation.specs.declared.history.Entry.{Entry}
-use Rattle.speculation.specs.declared.history.Entry.TheVariants.{Lend}
 use Rattle.speculation.specs.Run.{Mark}
-use Rattle.speculation.specs.Record.{output_of}
 use Rattle.speculation.specs.Core.{over}
-use Rattle.speculation.specs.Ledger.{ledger}
-use Rattle.region_ledger.specs.Ledger.{ledger_rows}
-use Rattle.region_ledger.specs.declared.finished.Finished.{Finished}
-use Rattle.guest_streams.specs.GuestStreams.{Sinks, GetsAll, GetsPart, StopsShort, end_of}
+use Rattle.guest_streams.specs.GuestStreams.{Sinks, GetsAll, StopsShort}
 use Rattle.guest_streams.specs.declared.fault.OutputFault.{OutputFault}
 use Rattle.guest_streams.specs.declared.fault.OutputFault.TheVariants as F
 use Rattle.track_board.specs.declared.outcome.Outcome.{Outcome}
-use Rattle.track_board.specs.Value.{Posted, core_of, machine_of, start_state}
+use Rattle.track_board.specs.Value.{Posted, core_of}
 use Rattle.track_board.specs.Settles.{verified_of, IsOutcome}
 use Rattle.track_board.specs.Others.{extended}
 use Rattle.serial_run.specs.declared.conducted.Conducted.{Conducted}
 use Rattle.serial_run.specs.declared.conducted.Conducted.TheVariants.{Done, WriteFault, NoMemory}
-use Rattle.serial_run.specs.Conducting.{alone_of, released_total}
 use Rattle.worker_gate.specs.declared.releases.Verified.{Verified}
 use Rattle.worker_gate.specs.declared.releases.Closed.{Closed}
+use Rattle.worker_gate.specs.Histories.{SeatsBelow}
 use Rattle.worker_gate.specs.Seats.{own_loans}
-
--- each loan of these entries went to a seat below this number
-abbrev pub SeatsBelow : ℕ → List Entry → Type 0
-SeatsBelow most [] = Unit {0}
-SeatsBelow most (Lend seat n ∷ xs) = (seat < most) × SeatsBelow most xs
-SeatsBelow most (x ∷ xs) = SeatsBelow most xs
 
 -- ---- the conductor's turns
 
@@ -75,27 +64,3 @@ abbrev pub Concludes : ℕ → Posted → Posted → Sinks → Sinks → Conduct
 Concludes most v w old new (Done o) = ((bytes : List Mark) × Hands bytes v w × GetsAll old new bytes) × IsClosed w o × SeatsBelow most w.entries
 Concludes most v w old new WriteFault = (bytes : List Mark) × Hands bytes v w × StopsShort old new bytes
 Concludes most v w old new NoMemory = ((bytes : List Mark) × Hands bytes v w) × (new ≡ old)
-
--- ---- the whole run
-
--- The outcome of a board that has a finish: its end and count are those of the program alone, its rows are the ledger, its
--- entries released as many bytes as the program alone writes, nothing verified is left to release, and its loans went to
--- the conductor, at seat 0, and to workers, at seats up to their number.
-pub record IsWhole (workers : ℕ) (w : Posted) (o : Outcome) : Type 0 where
-  pub outcome : IsOutcome w o
-  pub seats : SeatsBelow (workers + 1) w.entries
-  pub finished : Finished
-  pub finish : o.finished ≡ Some finished
-  pub end : finished.end ≡ end_of (alone_of w).end
-  pub count : finished.count ≡ (alone_of w).count
-  pub rows : ledger_rows o.rows ≡ ledger (machine_of w) (start_state w) w.settings.budget
-  pub total : released_total w.entries ≡ length (output_of (alone_of w))
-  pub released : verified_of w ≡ []
-
--- What a conductor with workers answers and leaves: the sinks got both streams of all that the program alone writes, and
--- the outcome is whole; or they got a part of it. Where neither count of faults rose the answer is `Done` or `NoMemory`;
--- after `WriteFault` one of them did, at a byte of its stream.
-abbrev pub Conducts : ℕ → Posted → Sinks → Sinks → Conducted → Type 0
-Conducts workers w old new (Done o) = IsWhole workers w o × GetsAll old new (output_of (alone_of w))
-Conducts workers w old new WriteFault = StopsShort old new (output_of (alone_of w))
-Conducts workers w old new NoMemory = GetsPart old new (output_of (alone_of w))

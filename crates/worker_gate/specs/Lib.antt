@@ -1,3 +1,4 @@
 pub mod Seats
 pub mod Rounds
 pub mod Conducting
+pub mod Histories

@@ -5,7 +5,9 @@ ghost use Rattle.speculation.specs.Core.{over};
 ghost use Rattle.guest_streams.specs.GuestStreams.{sinks_of};
 ghost use Rattle.track_board.specs.Value.{IsKnown, core_of};
 ghost use Rattle.worker_gate.specs.Seats.{seen_of, IsReady};
-ghost use Rattle.worker_gate.specs.Conducting.{Conducts, LedIs, Concludes};
+ghost use Rattle.serial_run.specs.Conducting.{Conducts};
+ghost use Rattle.worker_gate.specs.Histories.{HasWorkedHistory};
+ghost use Rattle.worker_gate.specs.Conducting.{LedIs, Concludes};
 
 use crate::gate::Gate;
 use crate::kinds::Round;
@@ -50,7 +52,7 @@ pub fn conduct<R: Threads + Wait + Clock + Sync, O: Sink, N: Sink, G: Gate + Syn
     requires stock { pass.old.stock ≡ 1 }
     requires seen { pass.old.seen ≡ [] }
     ensures pass { pass.new ≡ record pass.old { seen = pass.new.seen; stock = pass.new.stock } }
-    ensures conducts { Conducts workers (seen_of pass.new)
+    ensures conducts { Conducts (HasWorkedHistory workers) (seen_of pass.new)
         (sinks_of O.Sink N.Sink out.old notes.old) (sinks_of O.Sink N.Sink out.new notes.new) result }
     ensures over { IsTrue (over (core_of (seen_of pass.new))) }
     ensures known { IsKnown (seen_of pass.new) }

@@ -1,7 +1,8 @@
 use Rattle.std.proofs.Common.{◌+◌, drop, subst}
 use Rattle.std.proofs.lemmas.Result.{err_from_is_err_and}
 use Rattle.fasttrack_program.specs.Reports.{journal_text}
-use Rattle.fasttrack_program.proofs.OnTexts.{TextSoFar, TextSoFar-next, TextSoFar-stops, entries_next}
+use Rattle.sink_text.proofs.OnTexts.{TextSoFar, TextSoFar-next, TextSoFar-stops}
+use Rattle.fasttrack_program.proofs.OnTexts.{entries_next}
 use Rattle.fasttrack_program.proofs.journal.write_journal.Goals as goal
 
 pub returns-in_err-write_entry : goal.returns-in_err-write_entry

@@ -1,6 +1,6 @@
 use Rattle.std.proofs.Common.{drop}
 use Rattle.fasttrack_program.specs.Reports.{journal_text}
-use Rattle.fasttrack_program.proofs.OnTexts.{TextSoFar}
+use Rattle.sink_text.proofs.OnTexts.{TextSoFar}
 use Rattle.fasttrack_program.proofs.journal.write_journal.Given as goal
 
 abbrev pub invariant-loop-entry : goal.invariant-loop-entry

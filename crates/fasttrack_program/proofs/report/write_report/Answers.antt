@@ -3,7 +3,7 @@ use Rattle.std.proofs.lemmas.Result.{err_from_is_err_and}
 use Rattle.region_ledger.specs.Ledger.{totals_of}
 use Rattle.report_text.specs.Reports.{totals_line, end_line}
 use Rattle.fasttrack_program.specs.Reports.{report, rows_text}
-use Rattle.fasttrack_program.proofs.OnTexts.{TextSoFar-first, TextSoFar-next, TextSoFar-stops, TextSoFar-last, WritesText-as}
+use Rattle.sink_text.proofs.OnTexts.{TextSoFar-first, TextSoFar-next, TextSoFar-stops, TextSoFar-last, WritesText-as}
 use Rattle.fasttrack_program.proofs.report.write_report.Goals as goal
 
 pub returns-in_err-write_rows : goal.returns-in_err-write_rows

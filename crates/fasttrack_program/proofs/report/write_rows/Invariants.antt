@@ -1,6 +1,6 @@
 use Rattle.std.proofs.Common.{drop}
 use Rattle.fasttrack_program.specs.Reports.{rows_text}
-use Rattle.fasttrack_program.proofs.OnTexts.{TextSoFar}
+use Rattle.sink_text.proofs.OnTexts.{TextSoFar}
 use Rattle.fasttrack_program.proofs.report.write_rows.Given as goal
 
 abbrev pub invariant-loop-row : goal.invariant-loop-row

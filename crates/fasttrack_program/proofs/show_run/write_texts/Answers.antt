@@ -1,6 +1,6 @@
 use Rattle.std.proofs.lemmas.Result.{err_from_is_err_and}
 use Rattle.fasttrack_program.specs.Reports.{asked_report, asked_journal, asked_texts}
-use Rattle.fasttrack_program.proofs.OnTexts.{TextSoFar-first, TextSoFar-next, TextSoFar-stops, TextSoFar-last}
+use Rattle.sink_text.proofs.OnTexts.{TextSoFar-first, TextSoFar-next, TextSoFar-stops, TextSoFar-last}
 use Rattle.fasttrack_program.proofs.show_run.write_texts.Goals as goal
 
 pub returns-in_err-write_asked_report : goal.returns-in_err-write_asked_report

@@ -2,7 +2,8 @@ use Rattle.std.proofs.Common.{arith}
 use Rattle.guest_model.specs.ByteMap.{bytes_from}
 use Rattle.paged_image.specs.Image.{content}
 use Rattle.track_state.specs.Kept.{flat_state}
-use Rattle.time_points.proofs.OnViews.{go-none, go-more, count-more, count-spent, view-ended, view-spent}
+use Rattle.track_state.proofs.OnPlain.{go-none, go-more}
+use Rattle.time_points.proofs.OnViews.{count-more, count-spent, view-ended, view-spent}
 use Rattle.time_points.proofs.view.View.of.Goals as goal
 use Rattle.time_points.proofs.view.View.of.Goals.{in-Next, in-Wrote}
 

@@ -1,7 +1,7 @@
 //! Texts on one sink.
 
 ghost use Rattle.std.specs.Prelude.{◌≡◌, ℕ, List, IfOk, string_bytes};
-ghost use Rattle.fasttrack_program.specs.TextOnSink.{WritesOn};
+ghost use Rattle.sink_text.specs.TextOnSink.{WritesOn};
 
 use guest_model::NoMemory;
 use guest_streams::OutputFault;

@@ -1,0 +1,9 @@
+//! Texts that are written to one sink.
+#![tactic(auto)]
+
+mod texts;
+
+pub use texts::{write_made, write_text};
+
+#[cfg(test)]
+mod tests;
