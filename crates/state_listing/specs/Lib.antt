@@ -1,0 +1,6 @@
+pub mod Values
+pub mod Requests
+pub mod Counts
+pub mod Lines
+pub mod Listing
+pub mod FaultTexts
