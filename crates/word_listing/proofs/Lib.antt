@@ -1,0 +1,6 @@
+pub mod Areas
+pub mod Joined
+pub mod OneAnswer
+pub mod Pages
+pub mod PlainTexts
+pub mod TextLines
