@@ -8,4 +8,7 @@ pub mod OnPlans
 pub mod OnReading
 pub mod OnReports
 pub mod OnRuns
+pub mod OnShowing
+pub mod OnSubjects
+pub mod OnTelling
 pub mod OnTexts

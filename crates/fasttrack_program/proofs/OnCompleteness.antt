@@ -1,6 +1,6 @@
 -- Where no count rose, a call did all that its plan says
-use Rattle.std.proofs.Common.{◌≡◌, ◌≢◌, ℕ, ◌≤◌, Bool, true, false, List, [], ◌++◌, length, Ok, Option, Some, None, ◌⊎◌, inl, inr, refl, sym, ap, ◌∙◌, subst, arith}
-use Rattle.std.specs.Prelude.{unwrap_or, IsTrue, if◌then◌else◌}
+use Rattle.std.proofs.Common.{◌≡◌, ◌≢◌, ℕ, ◌≤◌, Bool, true, false, List, [], ◌++◌, length, Ok, Err, Option, Some, None, ◌⊎◌, inl, inr, refl, sym, ap, ◌∙◌, subst, append-nil, arith}
+use Rattle.std.specs.Prelude.{unwrap_or, not, IsTrue, if◌then◌else◌}
 use Rattle.std.specs.Io.KnownBytes.{Appends}
 use Rattle.std.proofs.KnownBytes.{Appends-nil}
 use Rattle.speculation.specs.declared.history.Entry.{Entry}
@@ -12,17 +12,19 @@ use Rattle.guest_model.specs.Image.{Image, image}
 use Rattle.guest_streams.specs.GuestStreams.{Sinks, Gets, GetsAll, FailsAt}
 use Rattle.guest_streams.proofs.OnStreams.{GetsAll-nothing}
 use Rattle.program_words.specs.CommandLine.{Request}
-use Rattle.program_words.specs.declared.request.Task.TheVariants.{Bench}
+use Rattle.program_words.specs.declared.request.Task.TheVariants as Tasks
+use Rattle.program_words.specs.declared.request.Task.TheVariants.{Bench, Check, At, Pack}
 use Rattle.fasttrack_program.specs.declared.served.Served.{Served}
 use Rattle.fasttrack_program.specs.declared.answer.Answer.{Answer}
-use Rattle.fasttrack_program.specs.declared.answer.Answer.TheVariants.{ReadFault, NoMemory}
+use Rattle.fasttrack_program.specs.declared.answer.Answer.TheVariants.{Shown, ReadFault, JournalTooLong, NoMemory}
 use Rattle.fasttrack_program.specs.AnswerLine.{line_of, without_line, IsSaidFor, WritesLineOf, Concludes}
-use Rattle.fasttrack_program.specs.Completeness.{line_text, DoesAll, FollowsPlan, IsComplete}
-use Rattle.fasttrack_program.specs.Plan.{Plan, Refused, Does, is_file, image_limit, input_limit, options_of, plan}
-use Rattle.fasttrack_program.specs.Promise.{Given, Promise, promise_of, IsHistory}
-use Rattle.fasttrack_program.specs.Reading.{Agrees, Known, FileFails, InputFails}
-use Rattle.fasttrack_program.specs.Serving.{plainly, wholly, IsKept, Keeps, IsStopped, IsServed}
-use Rattle.fasttrack_program.proofs.OnPlans.{good-runs, bench-runs}
+use Rattle.fasttrack_program.specs.Completeness.{line_text, DoesAll, ShowsAll, FollowsPlan, IsComplete}
+use Rattle.fasttrack_program.specs.Plan.{Found, Plan, Refused, Does, Shows, runs_file, image_in, image_limit, input_in, input_limit, journal_in, journal_limit, after, guest_plan, journal_plan, options_of, plan}
+use Rattle.fasttrack_program.specs.Promise.{Given, Promise, promise_of, settings_of, IsHistory}
+use Rattle.fasttrack_program.specs.Reading.{Agrees, Known, AgreesWith, FileFails, InputFails, BesideFails}
+use Rattle.fasttrack_program.specs.Showing.{Showing, OfJournal, OfStates, OfWords, OfText, Tells}
+use Rattle.fasttrack_program.specs.Serving.{plainly, wholly, IsWritten as IsKept, IsShown, Keeps, IsStopped, IsServed}
+use Rattle.fasttrack_program.proofs.OnPlans.{plan-by, file-plan, with-both, within-limit, whole_file, given_input, bench-runs}
 use Rattle.fasttrack_program.proofs.OnRuns.{noted, behind_all}
 
 -- a count that rose is not as before
@@ -132,16 +134,34 @@ module _ (old mid new : Sinks) (result : Answer) (out : new.out ≡ mid.out) (ou
     stopped read (inr e, same) = no-memory e
 
     module _ (p : Promise) (g : Given) (entries : List Entry) (history : IsHistory p.has_tracks g entries) where
-      followed-promise : IsKept p g entries old mid v → (result ≡ NoMemory) ⊎ DoesAll p g old new result
+      followed-promise : IsKept (p.writes g entries) (wholly p g entries) old mid v → (result ≡ NoMemory) ⊎ DoesAll p g old new result
       followed-promise (inl h) =
           or-else (λ w. record { entries = entries; history = history; answers = w.same; gets = with-line (p.writes g entries) (p.answer g) h.1 w })
           (concluded-whole old.notes_faults mid.notes new.notes mid.notes_faults new.notes_faults (p.answer g) result notes_calm h.1.calm.on_notes (line-of (wholly p g entries) h.0))
       followed-promise (inr (inl h)) = absurd (not-failed v.answer h.1.rest line h.1.fails)
       followed-promise (inr (inr h)) = inl (no-memory h.0)
 
+    -- a text that was shown whole
+    followed-text : (x : Showing) (text : List ℕ) → Tells x (Ok text) → IsKept (marked 1 text) (plainly Shown) old mid v → (result ≡ NoMemory) ⊎ ShowsAll x old new result
+    followed-text x text tells (inl h) =
+        or-else (λ w. inl (text, tells, w.same, subst (Gets old new) (append-nil (marked 1 text)) (subst (λ a. Gets old new (marked 1 text ++ marked 2 (line_text a))) w.same (with-line (marked 1 text) Shown h.1 w))))
+        (concluded-whole old.notes_faults mid.notes new.notes mid.notes_faults new.notes_faults Shown result notes_calm h.1.calm.on_notes (line-of (plainly Shown) h.0))
+    followed-text x text tells (inr (inl h)) = absurd (not-failed v.answer h.1.rest line h.1.fails)
+    followed-text x text tells (inr (inr h)) = inl (no-memory h.0)
+
+    -- what was read is refused
+    refused-text : (x : Showing) (answer : Answer) → Tells x (Err answer) → (result ≡ NoMemory) ⊎ FollowsPlan (Refused answer) old new result → (result ≡ NoMemory) ⊎ ShowsAll x old new result
+    refused-text x answer tells done = or-else (λ h. inr (subst (λ a. Tells x (Err a)) (sym h.0) tells, h.1)) done
+
+    followed-shown : (x : Showing) → IsShown x old mid v → (result ≡ NoMemory) ⊎ ShowsAll x old new result
+    followed-shown x (inl h) = followed-text x h.0 h.1 h.2
+    followed-shown x (inr (inl h)) = refused-text x h.0 h.1 (followed-refusal h.0 h.3 (line-of (plainly h.0) h.2))
+    followed-shown x (inr (inr h)) = inl (no-memory h.0)
+
     followed-plan : (q : Plan) → Keeps q old mid v → (result ≡ NoMemory) ⊎ FollowsPlan q old new result
     followed-plan (Refused a) k = followed-refusal a k.1 (line-of (plainly a) k.0)
     followed-plan (Does p g) k = followed-promise p g k.entries k.history k.kept
+    followed-plan (Shows x) k = followed-shown x k
 
     followed : (q : Plan) → result ≢ ReadFault → IsStopped old mid v ⊎ Keeps q old mid v → (result ≡ NoMemory) ⊎ FollowsPlan q old new result
     followed q read (inl h) = inl (stopped read h)
@@ -157,9 +177,10 @@ completed request known old mid new v result h out out_faults line out_calm note
 
 -- a read that failed was counted
 pub read-failed : {F I : Type 0} (f : FilesRow F) (i : SourceRow I) (request : Option Request) (files files' : F) (input input' : I)
-    → StayedCalm (f.faults files) (f.faults files') → StayedCalm (i.faults input) (i.faults input') → FileFails f i request files files' input input' ⊎ InputFails f i request files files' input input' → ⊥
+    → StayedCalm (f.faults files) (f.faults files') → StayedCalm (i.faults input) (i.faults input') → FileFails f i request files files' input input' ⊎ (InputFails f i request files files' input input' ⊎ BesideFails f i request files files' input input') → ⊥
 read-failed f i request files files' input input' calm calm' (inl h) = calm-not_risen (f.faults files) (f.faults files') calm h.risen
-read-failed f i request files files' input input' calm calm' (inr h) = calm-not_risen (i.faults input) (i.faults input') calm' h.risen
+read-failed f i request files files' input input' calm calm' (inr (inl h)) = calm-not_risen (i.faults input) (i.faults input') calm' h.risen
+read-failed f i request files files' input input' calm calm' (inr (inr h)) = calm-not_risen (f.faults files) (f.faults files') calm h.risen
 
 -- ---- calls that are done whole
 
@@ -170,17 +191,30 @@ given-same false known given input t h =
     let same : given ≡ input = subst (λ o. Agrees o given) (h refl).0 t in
     (λ e. subst (λ xs. length xs ≤ input_limit) (sym same) (h refl).1, same)
 
-pub good-done : (request : Request) (known : Option (List ℕ)) (file input : List ℕ) (i : Image) (old new : Sinks) (answer : Answer) → IsComplete (Some request) (record { file = Some file; input = known }) old new answer
-    → IsTrue (is_file (promise_of request.task).guest) → length file ≤ image_limit → image file ≡ Ok i → (request.no_input ≡ false → (known ≡ Some input) × (length input ≤ input_limit))
+-- the file, the input and the file of `--with` that a call found, where they are known
+module _ (known : Known) (found : Found) (agrees : AgreesWith known found) where
+  found-file : (file : List ℕ) → known.file ≡ Some file → found.file ≡ file
+  found-file file e = subst (λ o. Agrees o found.file) e agrees.file
+
+  found-beside : (beside : List ℕ) → known.beside ≡ Some beside → found.beside ≡ beside
+  found-beside beside e = subst (λ o. Agrees o found.beside) e agrees.beside
+
+  found-image : (file : List ℕ) (i : Image) → known.file ≡ Some file → length file ≤ image_limit → image file ≡ Ok i → image_in found.file ≡ Ok i
+  found-image file i e short good = ap image_in (found-file file e) ∙ whole_file file i short good
+
+  found-input : (unread : Bool) (input : List ℕ) → (unread ≡ false → (known.input ≡ Some input) × (length input ≤ input_limit)) → input_in (not unread) found.input ≡ Ok (if unread then [] else input)
+  found-input unread input few =
+      let given = given-same unread known.input found.input input agrees.input few in
+      given_input unread found.input given.0 ∙ ap Ok given.1
+
+pub good-done : (request : Request) (known : Known) (file input : List ℕ) (i : Image) (old new : Sinks) (answer : Answer) → IsComplete (Some request) known old new answer
+    → IsTrue (runs_file request.task) → known.file ≡ Some file → length file ≤ image_limit → image file ≡ Ok i → (request.no_input ≡ false → (known.input ≡ Some input) × (length input ≤ input_limit))
     → (answer ≡ NoMemory) ⊎ DoesAll (promise_of request.task) (record { image = i; input = if request.no_input then [] else input; options = options_of request }) old new answer
-good-done request known file input i old new answer (inl e) reads short good few = inl e
-good-done request known file input i old new answer (inr d) reads short good few =
-    let p = promise_of request.task in
-    let given = given-same request.no_input known d.found.input input d.agrees.input few in
-    let short_file = subst (λ xs. length xs ≤ image_limit) (sym d.agrees.file) short in
-    let good_file = subst (λ xs. image xs ≡ Ok i) (sym d.agrees.file) good in
-    let is = good-runs request d.found i reads short_file good_file given.0 ∙ ap (λ xs. Does p (record { image = i; input = xs; options = options_of request })) given.1 in
-    inr (subst (λ q. FollowsPlan q old new answer) is d.follows)
+good-done request known file input i old new answer (inl e) runs is short good few = inl e
+good-done request known file input i old new answer (inr d) runs is short good few =
+    let plan-is = file-plan request d.found runs
+    ∙ with-both request d.found (guest_plan request) i (if request.no_input then [] else input) (found-image known d.found d.agrees file i is short good) (found-input known d.found d.agrees request.no_input input few) in
+    inr (subst (λ q. FollowsPlan q old new answer) plan-is d.follows)
 
 pub bench-done : (request : Request) (known : Known) (number : ℕ) (old new : Sinks) (answer : Answer) → IsComplete (Some request) known old new answer
     → request.task ≡ Bench number → (answer ≡ NoMemory) ⊎ ((i : Image) × DoesAll (promise_of (Bench number)) (record { image = i; input = []; options = options_of request }) old new answer)
@@ -188,3 +222,42 @@ bench-done request known number old new answer (inl e) is = inl e
 bench-done request known number old new answer (inr d) is =
     let runs = bench-runs request d.found number is in
     inr (runs.0, subst (λ q. FollowsPlan q old new answer) runs.1 d.follows)
+
+-- ---- texts that are shown whole
+
+-- a task that shows a text of a program
+module _ (request : Request) (known : Known) (file input : List ℕ) (i : Image) (is : known.file ≡ Some file) (short : length file ≤ image_limit) (good : image file ≡ Ok i)
+    (few : request.no_input ≡ false → (known.input ≡ Some input) × (length input ≤ input_limit)) (beside : List ℕ) (old new : Sinks) (answer : Answer) where
+  abbrev given : List ℕ
+  given = if request.no_input then [] else input
+
+  pub journal-done : IsComplete (Some request) known old new answer → request.task ≡ Check → known.beside ≡ Some beside → length beside ≤ journal_limit
+      → (answer ≡ NoMemory) ⊎ ShowsAll (OfJournal i given (settings_of (options_of request)) beside) old new answer
+  journal-done (inl e) task with within = inl e
+  journal-done (inr d) task with within =
+      let plan-is = plan-by request d.found Check task
+      ∙ with-both request d.found (journal_plan request d.found) i given (found-image known d.found d.agrees file i is short good) (found-input known d.found d.agrees request.no_input input few)
+      ∙ ap (λ x. after x (λ journal. Shows (OfJournal i given (settings_of (options_of request)) journal)))
+      (ap journal_in (found-beside known d.found d.agrees beside with) ∙ within-limit journal_limit JournalTooLong beside within) in
+      inr (subst (λ q. FollowsPlan q old new answer) plan-is d.follows)
+
+  pub states-done : IsComplete (Some request) known old new answer → request.task ≡ At → known.beside ≡ Some beside → (answer ≡ NoMemory) ⊎ ShowsAll (OfStates i given beside) old new answer
+  states-done (inl e) task with = inl e
+  states-done (inr d) task with =
+      let plan-is = plan-by request d.found At task
+      ∙ with-both request d.found (λ j taken. Shows (OfStates j taken d.found.beside)) i given (found-image known d.found d.agrees file i is short good) (found-input known d.found d.agrees request.no_input input few)
+      ∙ ap (λ xs. Shows (OfStates i given xs)) (found-beside known d.found d.agrees beside with) in
+      inr (subst (λ q. FollowsPlan q old new answer) plan-is d.follows)
+
+module _ (request : Request) (known : Known) (file : List ℕ) (is : known.file ≡ Some file) (old new : Sinks) (answer : Answer) where
+  pub words-done : (i : Image) → IsComplete (Some request) known old new answer → request.task ≡ Tasks.List → length file ≤ image_limit → image file ≡ Ok i → (answer ≡ NoMemory) ⊎ ShowsAll (OfWords i) old new answer
+  words-done i (inl e) task short good = inl e
+  words-done i (inr d) task short good =
+      let plan-is = plan-by request d.found Tasks.List task ∙ ap (λ x. after x (λ j. Shows (OfWords j))) (found-image known d.found d.agrees file i is short good) in
+      inr (subst (λ q. FollowsPlan q old new answer) plan-is d.follows)
+
+  pub text-done : IsComplete (Some request) known old new answer → request.task ≡ Pack → (answer ≡ NoMemory) ⊎ ShowsAll (OfText file) old new answer
+  text-done (inl e) task = inl e
+  text-done (inr d) task =
+      let plan-is = plan-by request d.found Pack task ∙ ap (λ xs. Shows (OfText xs)) (found-file known d.found d.agrees file is) in
+      inr (subst (λ q. FollowsPlan q old new answer) plan-is d.follows)

@@ -1,5 +1,5 @@
 -- Every guest has a history, by any number of workers
-use Rattle.std.proofs.Common.{◌≡◌, ◌≤◌, true, List}
+use Rattle.std.proofs.Common.{◌≤◌, true, List}
 use Rattle.speculation.specs.declared.history.Entry.{Entry}
 use Rattle.guest_model.specs.Image.{start_of}
 use Rattle.guest_model.specs.Rv32.{rv32}

@@ -1,6 +1,6 @@
 -- From what was read and done to the plan of the call
-use Rattle.std.proofs.Common.{◌≡◌, ℕ, ◌≤◌, Bool, true, false, List, [], length, Option, Some, None, Result, Ok, Err, inl, inr, refl, sym, ap, ◌∙◌, subst, arith}
-use Rattle.std.specs.Prelude.{nat_lt, IsTrue, not, ◌&&◌, if◌then◌else◌}
+use Rattle.std.proofs.Common.{◌≡◌, ℕ, ◌≤◌, Bool, true, false, List, [], length, Option, Some, None, Result, Ok, Err, ◌⊎◌, inl, inr, refl, sym, ap, ◌∙◌, subst, arith}
+use Rattle.std.specs.Prelude.{nat_lt, IsTrue, not, if◌then◌else◌}
 use Rattle.std.proofs.lemmas.Bool.Decides.{nat_tests}
 use Rattle.elf32_loader.specs.LoadedImage.{image_of_loaded}
 use Rattle.elf32_loader.specs.declared.loaded.Loaded.{Loaded}
@@ -8,17 +8,18 @@ use Rattle.guest_model.specs.Image.{Image, image}
 use Rattle.guest_streams.specs.GuestStreams.{Sinks}
 use Rattle.program_words.specs.CommandLine.{Request}
 use Rattle.program_words.specs.declared.request.Task.{Task}
-use Rattle.program_words.specs.declared.request.Task.TheVariants.{Alone, Run, Trial, Bench}
+use Rattle.program_words.specs.declared.request.Task.TheVariants as Tasks
+use Rattle.program_words.specs.declared.request.Task.TheVariants.{Alone, Run, Trial, Bench, Check, At, Pack}
 use Rattle.fasttrack_program.specs.declared.served.Served.{Served}
 use Rattle.fasttrack_program.specs.declared.answer.Answer.{Answer}
 use Rattle.fasttrack_program.specs.declared.answer.Answer.TheVariants.{Usage}
 use Rattle.rv32_asm.specs.Generated.{generated}
 use Rattle.fasttrack_program.specs.declared.guest.LoadedGuest.{LoadedGuest}
 use Rattle.fasttrack_program.specs.declared.options.Options.{Options}
-use Rattle.fasttrack_program.specs.Finding.{FindsGuest}
-use Rattle.fasttrack_program.specs.Plan.{Plan, Refused, Does, Found, options_of, is_file, reads_input, image_in, image_limit, image_for, input_in, input_limit, plan_of, unless_bad, bench_regions, bench_plan, plan}
-use Rattle.fasttrack_program.specs.Promise.{Guest, FromFile, ForBench, promise_of}
-use Rattle.fasttrack_program.specs.Reading.{Agrees, Known, AgreesWith, IsUnread, Reads}
+use Rattle.fasttrack_program.specs.Finding.{FindsProgram, FindsGuest}
+use Rattle.fasttrack_program.specs.Plan.{Plan, Refused, Does, Found, options_of, shows, runs_file, takes_file, takes_input, takes_beside, bytes_in, image_in, image_limit, input_in, input_limit, after, with_program, guest_plan, unless_bad, bench_image, bench_regions, plan_for, plan}
+use Rattle.fasttrack_program.specs.Promise.{promise_of}
+use Rattle.fasttrack_program.specs.Reading.{Agrees, Known, AgreesWith, IsUnread}
 use Rattle.fasttrack_program.specs.Serving.{plainly, KeepsPromise, Keeps, IsServed}
 use Rattle.fasttrack_program.specs.TopCall.{IsRequest}
 use Rattle.fasttrack_program.specs.Tracks.{given_of}
@@ -35,72 +36,142 @@ unfolding some_bytes
 some_agree None = tt
 some_agree (Some bytes) = refl
 
-some_found : Known → Found
-some_found known = record { file = some_bytes known.file; input = some_bytes known.input }
+pub some_found : Known → Found
+some_found known = record { file = some_bytes known.file; input = some_bytes known.input; beside = some_bytes known.beside }
 
-some_agrees : (known : Known) → AgreesWith known (some_found known)
+pub some_agrees : (known : Known) → AgreesWith known (some_found known)
 unfolding some_found
-some_agrees known = record { file = some_agree known.file; input = some_agree known.input }
+some_agrees known = record { file = some_agree known.file; input = some_agree known.input; beside = some_agree known.beside }
 
--- ---- the plan of a task that reads an image file
+-- the same with these bytes in the file, and these in the input
+abbrev pub found_both : Known → (file input : List ℕ) → Found
+found_both known file input = record { file = file; input = input; beside = some_bytes known.beside }
 
-pub no_bench : (task : Task) → ((number : ℕ) → task ≡ Bench number → ⊥) → IsTrue (is_file (promise_of task).guest)
-no_bench Alone h = refl
-no_bench Run h = refl
-no_bench Trial h = refl
-no_bench (Bench number) h = absurd (h number refl)
+pub agrees_both : (known : Known) (file input : List ℕ) → Agrees known.file file → Agrees known.input input → AgreesWith known (found_both known file input)
+agrees_both known file input h k = record { file = h; input = k; beside = some_agree known.beside }
 
-image_for-file : (guest : Guest) (file : List ℕ) → IsTrue (is_file guest) → image_for guest file ≡ image_in file
-image_for-file FromFile file h = refl
-image_for-file (ForBench number) file h = absurd (cc)
+abbrev pub found_file : Known → List ℕ → Found
+found_file known file = found_both known file (some_bytes known.input)
 
-and-true : (a b : Bool) → IsTrue a → (a && b) ≡ b
-and-true true b h = refl
-and-true false b h = absurd (cc)
+pub agrees_file : (known : Known) (file : List ℕ) → Agrees known.file file → AgreesWith known (found_file known file)
+agrees_file known file h = agrees_both known file (some_bytes known.input) h (some_agree known.input)
 
--- it reads the input, unless that is to be left unread
-pub reads_input-is : (r : Request) → IsTrue (is_file (promise_of r.task).guest) → reads_input (Some r) ≡ not r.no_input
-reads_input-is r h = and-true (is_file (promise_of r.task).guest) (not r.no_input) h
+-- ---- the plan of a task
 
-plan-is : (r : Request) (file input : List ℕ) (i : Result Image Answer) (given : Result (List ℕ) Answer) → IsTrue (is_file (promise_of r.task).guest) → image_in file ≡ i → input_in (not r.no_input) input ≡ given
-    → plan (Some r) (record { file = file; input = input }) ≡ plan_of (promise_of r.task) (options_of r) i given
-plan-is r file input i given h is_image is_input =
-    let p = promise_of r.task in
-    let o = options_of r in
-    ap (λ x. plan_of p o x (input_in (reads_input (Some r)) input)) (image_for-file p.guest file h ∙ is_image)
-    ∙ ap (λ b. plan_of p o i (input_in b input)) (reads_input-is r h) ∙ ap (plan_of p o i) is_input
+pub plan-by : (r : Request) (found : Found) (task : Task) → r.task ≡ task → plan (Some r) found ≡ plan_for task r found
+plan-by r found task e = ap (λ t. plan_for t r found) e
+
+pub no_bench : (task : Task) → ((number : ℕ) → task ≡ Bench number → ⊥) → shows task ≡ false → IsTrue (runs_file task)
+no_bench Alone h k = refl
+no_bench Run h k = refl
+no_bench Trial h k = refl
+no_bench (Bench number) h k = absurd (h number refl)
+no_bench Check h k = absurd (cc)
+no_bench At h k = absurd (cc)
+no_bench Tasks.List h k = absurd (cc)
+no_bench Pack h k = absurd (cc)
+
+-- such a task reads the input, and each task that does reads a file
+pub file-takes : (task : Task) → IsTrue (runs_file task) → IsTrue (takes_input task)
+file-takes Alone h = refl
+file-takes Run h = refl
+file-takes Trial h = refl
+file-takes (Bench number) h = absurd (cc)
+file-takes Check h = absurd (cc)
+file-takes At h = absurd (cc)
+file-takes Tasks.List h = absurd (cc)
+file-takes Pack h = absurd (cc)
+
+pub input-takes : (task : Task) → IsTrue (takes_input task) → IsTrue (takes_file task)
+input-takes Alone h = refl
+input-takes Run h = refl
+input-takes Trial h = refl
+input-takes (Bench number) h = absurd (cc)
+input-takes Check h = refl
+input-takes At h = refl
+input-takes Tasks.List h = absurd (cc)
+input-takes Pack h = absurd (cc)
+
+pub beside-takes : (task : Task) → IsTrue (takes_beside task) → IsTrue (takes_input task)
+beside-takes Alone h = absurd (cc)
+beside-takes Run h = absurd (cc)
+beside-takes Trial h = absurd (cc)
+beside-takes (Bench number) h = absurd (cc)
+beside-takes Check h = refl
+beside-takes At h = refl
+beside-takes Tasks.List h = absurd (cc)
+beside-takes Pack h = absurd (cc)
+
+-- a task with tracks runs a guest
+pub tracks-run : (task : Task) → IsTrue (promise_of task).has_tracks → shows task ≡ false
+tracks-run Alone h = refl
+tracks-run Run h = refl
+tracks-run Trial h = refl
+tracks-run (Bench number) h = refl
+tracks-run Check h = absurd (cc)
+tracks-run At h = absurd (cc)
+tracks-run Tasks.List h = absurd (cc)
+tracks-run Pack h = absurd (cc)
+
+file-plan_by : (r : Request) (found : Found) (task : Task) → IsTrue (runs_file task) → plan_for task r found ≡ with_program r found (guest_plan r)
+file-plan_by r found Alone h = refl
+file-plan_by r found Run h = refl
+file-plan_by r found Trial h = refl
+file-plan_by r found (Bench number) h = absurd (cc)
+file-plan_by r found Check h = absurd (cc)
+file-plan_by r found At h = absurd (cc)
+file-plan_by r found Tasks.List h = absurd (cc)
+file-plan_by r found Pack h = absurd (cc)
+
+-- the guest of an image file
+pub file-plan : (r : Request) (found : Found) → IsTrue (runs_file r.task) → plan (Some r) found ≡ with_program r found (guest_plan r)
+file-plan r found h = file-plan_by r found r.task h
+
+-- what follows the program of an image file
+module _ (r : Request) (found : Found) (next : Image → List ℕ → Plan) where
+  pub with-both : (i : Image) (input : List ℕ) → image_in found.file ≡ Ok i → input_in (not r.no_input) found.input ≡ Ok input → with_program r found next ≡ next i input
+  with-both i input e k = ap (λ x. after x (λ j. after (input_in (not r.no_input) found.input) (next j))) e ∙ ap (λ x. after x (next i)) k
+
+  with-no_image : (a : Answer) → image_in found.file ≡ Err a → with_program r found next ≡ Refused a
+  with-no_image a e = ap (λ x. after x (λ j. after (input_in (not r.no_input) found.input) (next j))) e
+
+  with-no_input : (i : Image) (a : Answer) → image_in found.file ≡ Ok i → input_in (not r.no_input) found.input ≡ Err a → with_program r found next ≡ Refused a
+  with-no_input i a e k = ap (λ x. after x (λ j. after (input_in (not r.no_input) found.input) (next j))) e ∙ ap (λ x. after x (next i)) k
 
 -- ---- calls that are done
 
-whole_file : (file : List ℕ) (i : Image) → length file ≤ image_limit → image file ≡ Ok i → image_in file ≡ Ok i
+pub within-limit : (limit : ℕ) (too_long : Answer) (bytes : List ℕ) → length bytes ≤ limit → bytes_in limit too_long bytes ≡ Ok bytes
+within-limit limit too_long bytes h =
+    let short : nat_lt limit (length bytes) ≡ false = grind (arith, nat_tests) in
+    rw short refl
+
+pub whole_file : (file : List ℕ) (i : Image) → length file ≤ image_limit → image file ≡ Ok i → image_in file ≡ Ok i
 whole_file file i h e =
     let short : nat_lt image_limit (length file) ≡ false = grind (arith, nat_tests) in
     rw (short, e) refl
 
-given_input : (unread : Bool) (input : List ℕ) → (unread ≡ false → length input ≤ input_limit) → input_in (not unread) input ≡ Ok (if unread then [] else input)
+pub given_input : (unread : Bool) (input : List ℕ) → (unread ≡ false → length input ≤ input_limit) → input_in (not unread) input ≡ Ok (if unread then [] else input)
 given_input true input h = refl
-given_input false input h =
-    let short : nat_lt input_limit (length input) ≡ false = (let few = h refl in grind (arith, nat_tests)) in
-    rw short refl
+given_input false input h = within-limit input_limit _ input (h refl)
 
-pub good-runs : (r : Request) (found : Found) (i : Image) → IsTrue (is_file (promise_of r.task).guest) → length found.file ≤ image_limit → image found.file ≡ Ok i → (r.no_input ≡ false → length found.input ≤ input_limit)
+pub good-runs : (r : Request) (found : Found) (i : Image) → IsTrue (runs_file r.task) → length found.file ≤ image_limit → image found.file ≡ Ok i → (r.no_input ≡ false → length found.input ≤ input_limit)
     → plan (Some r) found ≡ Does (promise_of r.task) (record { image = i; input = if r.no_input then [] else found.input; options = options_of r })
-good-runs r found i reads short good few =
-    plan-is r found.file found.input (Ok i) (Ok (if r.no_input then [] else found.input)) reads (whole_file found.file i short good) (given_input r.no_input found.input few)
+good-runs r found i runs short good few =
+    file-plan r found runs
+    ∙ with-both r found (guest_plan r) i (if r.no_input then [] else found.input) (whole_file found.file i short good) (given_input r.no_input found.input few)
 
-pub bench-is : (r : Request) (found : Found) (number : ℕ) → r.task ≡ Bench number → plan (Some r) found ≡ bench_plan number (options_of r)
-bench-is r found number e =
-    ap (λ task. plan_of (promise_of task) (options_of r) (image_for (promise_of task).guest found.file) (input_in (is_file (promise_of task).guest && not r.no_input) found.input)) e
+bench-plan : (r : Request) (found : Found) (number : ℕ) (i : Image) → r.task ≡ Bench number → bench_image number ≡ Ok i → plan (Some r) found ≡ guest_plan r i []
+bench-plan r found number i e loads = plan-by r found (Bench number) e ∙ ap (λ x. after x (λ (j : Image). guest_plan r j [])) loads
 
 pub bench-runs : (r : Request) (found : Found) (number : ℕ) → r.task ≡ Bench number → (i : Image) × (plan (Some r) found ≡ Does (promise_of (Bench number)) (record { image = i; input = []; options = options_of r }))
 bench-runs r found number e =
     let loads = bench-loads number in
-    (loads.0, bench-is r found number e ∙ ap (λ x. plan_of (promise_of (Bench number)) (options_of r) x (Ok [])) loads.1)
+    (loads.0, bench-plan r found number loads.0 e loads.1 ∙ ap (λ task. Does (promise_of task) (record { image = loads.0; input = []; options = options_of r })) e)
 
 -- ---- calls that were served
 
 -- a plan that was kept
-served-plan : (r : Option Request) (known : Known) (found : Found) (p : Plan) (old new : Sinks) (v : Served) → AgreesWith known found → plan r found ≡ p → Keeps p old new v → IsServed r known old new v
+pub served-plan : (r : Option Request) (known : Known) (found : Found) (p : Plan) (old new : Sinks) (v : Served) → AgreesWith known found → plan r found ≡ p → Keeps p old new v → IsServed r known old new v
 served-plan r known found p old new v agrees is h = record { found = found; agrees = agrees; keeps = inr (subst (λ q. Keeps q old new v) (sym is) h) }
 
 -- nothing was written, since a read failed or memory ran out
@@ -118,7 +189,7 @@ pub served-refused : (r : Option Request) (known : Known) (s : Sinks) (a : Answe
 served-refused r known s a (inl h) = subst (λ x. IsServed r known s s (plainly x)) (sym h.0) (served-usage r known s h.1)
 served-refused r known s a (inr e) = served-unread r known s a (inr e)
 
--- ---- what is found for a request
+-- ---- the guest that is found for a request
 
 -- a guest whose task was done by the options of the request
 pub served-guest : (r : Request) (o : Options) (known : Known) (guest : LoadedGuest) (old new : Sinks) (v : Served) → o ≡ options_of r → FindsGuest r known (Ok guest)
@@ -132,37 +203,29 @@ pub served-none : (r : Request) (known : Known) (a : Answer) (s : Sinks) → Fin
 served-none r known a s (inl unread) = served-unread (Some r) known s a unread
 served-none r known a s (inr h) = served-plan (Some r) known h.0 (Refused a) s s (plainly a) h.1 h.2 (refl, refl)
 
-module _ (r : Request) (known : Known) (reads : IsTrue (is_file (promise_of r.task).guest)) where
-  -- the image was refused, or could not be read
-  pub finds-no_image : (a : Answer) → Reads {A = Image} image_in known.file (Err a) → FindsGuest r known (Err a)
-  finds-no_image a (inl unread) = inl unread
-  finds-no_image a (inr h) = inr (
-    record { file = h.0; input = some_bytes known.input },
-    record { file = h.1; input = some_agree known.input },
-    plan-is r h.0 (some_bytes known.input) (Err a) (input_in (not r.no_input) (some_bytes known.input)) reads h.2 refl,
-  )
+-- the image or the input was refused, or could not be read
+pub program-refused : (r : Request) (known : Known) (a : Answer) → FindsProgram (not r.no_input) known (Err a)
+    → IsUnread a ⊎ ((found : Found) × AgreesWith known found × ((next : Image → List ℕ → Plan) → with_program r found next ≡ Refused a))
+program-refused r known a (inl (inl unread)) = inl unread
+program-refused r known a (inl (inr h)) =
+    inr (found_file known h.0, agrees_file known h.0 h.1, λ next. with-no_image r (found_file known h.0) next a h.2)
+program-refused r known a (inr (i, file, inl unread)) = inl unread
+program-refused r known a (inr (i, file, inr h)) =
+    let found = found_both known file.0 h.0 in
+    inr (found, agrees_both known file.0 h.0 file.1 h.1, λ next. with-no_input r found next i a file.2 h.2)
 
-  module _ (l : Loaded) (file : Reads {A = Image} image_in known.file (Ok (image_of_loaded l))) where
-    -- the input was
-    pub finds-no_input : (a : Answer) → Reads {A = List ℕ} (input_in (not r.no_input)) known.input (Err a) → FindsGuest r known (Err a)
-    finds-no_input a (inl unread) = inl unread
-    finds-no_input a (inr h) = inr (
-      record { file = file.0; input = h.0 },
-      record { file = file.1; input = h.1 },
-      plan-is r file.0 h.0 (Ok (image_of_loaded l)) (Err a) reads file.2 h.2,
-    )
-
-    pub finds-guest : (input : List ℕ) → Reads (input_in (not r.no_input)) known.input (Ok input) → FindsGuest r known (Ok (record { loaded = l; input = input }))
-    finds-guest input h = (
-      record { file = file.0; input = h.0 },
-      record { file = file.1; input = h.1 },
-      plan-is r file.0 h.0 (Ok (image_of_loaded l)) (Ok input) reads file.2 h.2,
-    )
+pub finds-guest : (r : Request) (known : Known) → IsTrue (runs_file r.task) → (x : Result LoadedGuest Answer) → FindsProgram (not r.no_input) known x → FindsGuest r known x
+finds-guest r known runs (Ok guest) (file, input) =
+    let found = found_both known file.0 input.0 in
+    (found, agrees_both known file.0 input.0 file.1 input.1, file-plan r found runs ∙ with-both r found (guest_plan r) (image_of_loaded guest.loaded) guest.input file.2 input.2)
+finds-guest r known runs (Err a) h = refused (program-refused r known a h)
+  where
+    refused : IsUnread a ⊎ ((found : Found) × AgreesWith known found × ((next : Image → List ℕ → Plan) → with_program r found next ≡ Refused a)) → FindsGuest r known (Err a)
+    refused (inl unread) = inl unread
+    refused (inr k) = inr (k.0, k.1, file-plan r k.0 runs ∙ k.2 (guest_plan r))
 
 -- the guest of a bench
 pub finds-bench : (r : Request) (known : Known) (number : ℕ) (l : Loaded) → r.task ≡ Bench number → image (generated number bench_regions) ≡ Ok (image_of_loaded l)
     → FindsGuest r known (Ok (record { loaded = l; input = [] }))
 finds-bench r known number l e loads =
-    let o = options_of r in
-    let plan-is : bench_plan number o ≡ Does (promise_of (Bench number)) (given_of l [] o) = ap (λ x. plan_of (promise_of (Bench number)) o (unless_bad x) (Ok [])) loads in
-    (some_found known, some_agrees known, bench-is r (some_found known) number e ∙ plan-is ∙ ap (λ task. Does (promise_of task) (given_of l [] o)) (sym e))
+    (some_found known, some_agrees known, bench-plan r (some_found known) number (image_of_loaded l) e (ap unless_bad loads))

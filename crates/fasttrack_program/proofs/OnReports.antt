@@ -122,7 +122,7 @@ parts_marked got rest text e = sym (marked-append 1 got rest) ∙ ap (marked 1) 
 pub text_shown : (s : Sinks) (held : Option (List ℕ)) (faults : ℕ) (text : List ℕ) → Appends s.out held text → faults ≡ s.out_faults → GetsAll s (record s { out = held; out_faults = faults }) (marked 1 text)
 text_shown s held faults text a c = record { gets = Gets-on_out s held faults text a; calm = record { on_out = c; on_notes = refl } }
 
-text_stops : (s : Sinks) (held : Option (List ℕ)) (faults : ℕ) (text : List ℕ)
+pub text_stops : (s : Sinks) (held : Option (List ℕ)) (faults : ℕ) (text : List ℕ)
     → WritesText {T = Unit {0}} s.out held s.out_faults faults text (Err Write) → StopsShort s (record s { out = held; out_faults = faults }) (marked 1 text)
 text_stops s held faults text h = record {
   got = marked 1 h.0.beginning.got;
@@ -132,7 +132,7 @@ text_stops s held faults text h = record {
   fails = inl (h.1, refl, IsNext-marked 1 h.0.beginning.rest h.0.more);
 }
 
-text_within : (s : Sinks) (held : Option (List ℕ)) (faults : ℕ) (text : List ℕ)
+pub text_within : (s : Sinks) (held : Option (List ℕ)) (faults : ℕ) (text : List ℕ)
     → WritesText {T = Unit {0}} s.out held s.out_faults faults text (Err NoMemory) → GetsPart s (record s { out = held; out_faults = faults }) (marked 1 text)
 text_within s held faults text h = record {
   got = marked 1 h.0.got;

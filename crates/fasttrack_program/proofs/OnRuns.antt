@@ -34,7 +34,8 @@ use Rattle.fasttrack_program.specs.declared.options.Options.{Options}
 use Rattle.fasttrack_program.specs.declared.answer.Answer.TheVariants as A
 use Rattle.fasttrack_program.specs.Answers.{answer_of, answer_of_fault}
 use Rattle.fasttrack_program.specs.Promise.{Given, alone_on, texts_behind, promise_of, settings_of, IsHistory}
-use Rattle.fasttrack_program.specs.Reports.{bench_report, journal_text, asked_texts}
+use Rattle.journal_check.specs.Journals.{journal_text}
+use Rattle.fasttrack_program.specs.Reports.{bench_report, asked_texts}
 use Rattle.fasttrack_program.specs.Serving.{plainly, KeepsPromise}
 use Rattle.sink_text.specs.TextOnSink.{WritesText}
 use Rattle.fasttrack_program.specs.Tracks.{given_of, board_for, RunsTracks, HasOutcome}

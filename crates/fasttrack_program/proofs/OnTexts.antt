@@ -5,7 +5,8 @@ use Rattle.speculation.specs.declared.history.Entry.{Entry}
 use Rattle.board_events.specs.Texts.{text_of}
 use Rattle.region_ledger.specs.declared.row.Row.{Row}
 use Rattle.report_text.specs.Reports.{row_line}
-use Rattle.fasttrack_program.specs.Reports.{rows_text, journal_text}
+use Rattle.journal_check.specs.Journals.{journal_text}
+use Rattle.fasttrack_program.specs.Reports.{rows_text}
 
 -- ---- rows
 

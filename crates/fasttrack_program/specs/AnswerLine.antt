@@ -1,17 +1,18 @@
 -- The line on notes for an answer
-use Rattle.std.specs.Prelude.{◌≡◌, ℕ, ◌<◌, List, [], ◌∷◌, ◌++◌, length, take, Option, Some, None, codes, ◌⊎◌}
+use Rattle.std.specs.Prelude.{◌≡◌, ℕ, ◌<◌, List, [], ◌∷◌, ◌++◌, length, take, Option, Some, None, codes, decimal, ◌⊎◌}
 use Rattle.std.specs.Io.KnownBytes.{Appends}
 use Rattle.host_io.specs.Faults.{Rose}
 use Rattle.report_text.specs.Texts.{address_text, trap_text}
+use Rattle.journal_check.specs.FaultTexts.{fault_text as journal_fault_text}
 use Rattle.fasttrack_program.specs.FaultTexts.{fault_text}
 use Rattle.fasttrack_program.specs.declared.answer.Answer.{Answer}
-use Rattle.fasttrack_program.specs.declared.answer.Answer.TheVariants.{Exited, Trapped, Spent, Shown, Usage, ReadFault, ImageTooLong, BadImage, InputTooLong, WriteFault, NoMemory}
+use Rattle.fasttrack_program.specs.declared.answer.Answer.TheVariants.{Exited, Trapped, Spent, Shown, Usage, ReadFault, ImageTooLong, BadImage, InputTooLong, JournalTooLong, BadJournal, BadCounts, BadText, WriteFault, NoMemory}
 
 -- a line ends with a line feed
 abbrev pub as_line : List ℕ → List ℕ
 as_line text = codes "fasttrack: " ++ (text ++ 10 ∷ [])
 
--- an exit and a report have no line
+-- an exit, and what is shown, have no line
 abbrev pub line_of : Answer → Option (List ℕ)
 line_of (Exited code) = None
 line_of (Trapped trap pc) = Some (as_line (codes "trap " ++ (trap_text trap ++ (codes " at " ++ address_text pc))))
@@ -22,6 +23,10 @@ line_of ReadFault = Some (as_line (codes "read failed"))
 line_of ImageTooLong = Some (as_line (codes "image too long"))
 line_of (BadImage fault) = Some (as_line (codes "bad image: " ++ fault_text fault))
 line_of InputTooLong = Some (as_line (codes "input too long"))
+line_of JournalTooLong = Some (as_line (codes "journal too long"))
+line_of (BadJournal fault) = Some (as_line (codes "bad journal: " ++ journal_fault_text fault))
+line_of (BadCounts line) = Some (as_line (codes "bad counts: line " ++ decimal line))
+line_of (BadText at) = Some (as_line (codes "bad text: line " ++ (decimal at.line ++ (codes " place " ++ decimal at.place))))
 line_of WriteFault = Some (as_line (codes "write failed"))
 line_of NoMemory = Some (as_line (codes "no memory"))
 
@@ -29,6 +34,9 @@ line_of NoMemory = Some (as_line (codes "no memory"))
 abbrev pub HasNumbers : Answer → Type 0
 HasNumbers (Trapped trap pc) = Unit {0}
 HasNumbers (BadImage fault) = Unit {0}
+HasNumbers (BadJournal fault) = Unit {0}
+HasNumbers (BadCounts line) = Unit {0}
+HasNumbers (BadText at) = Unit {0}
 HasNumbers _ = ⊥
 
 -- the answer of a call whose line could not be written: a guest's end is lost then, any other answer stays

@@ -8,5 +8,6 @@ pub mod Promise
 pub mod Reading
 pub mod Reports
 pub mod Serving
+pub mod Showing
 pub mod TopCall
 pub mod Tracks

@@ -5,40 +5,78 @@ use Rattle.elf32_loader.specs.declared.fault.ImageFault.TheVariants as F
 use Rattle.guest_model.specs.Image.{Image, image}
 use Rattle.guest_model.specs.ImageFault.{Fault, Short, Magic, Class, ByteOrder, Version, Kind, Machine, Headers, Dynamic, BadSegment, Overlap, StackOverlap, TooLarge, Entry}
 use Rattle.program_words.specs.CommandLine.{Request}
-use Rattle.program_words.specs.declared.request.Task.TheVariants.{Bench}
+use Rattle.program_words.specs.declared.request.Task.{Task}
+use Rattle.program_words.specs.declared.request.Task.TheVariants as Tasks
+use Rattle.program_words.specs.declared.request.Task.TheVariants.{Alone, Run, Trial, Bench, Check, At, Pack}
 use Rattle.rv32_asm.specs.Generated.{generated}
-use Rattle.fasttrack_program.specs.Promise.{Given, Guest, FromFile, ForBench, Promise, promise_of}
+use Rattle.fasttrack_program.specs.Promise.{Given, Promise, promise_of, settings_of}
+use Rattle.fasttrack_program.specs.Showing.{Showing, OfJournal, OfStates, OfWords, OfText}
 use Rattle.fasttrack_program.specs.declared.answer.Answer.{Answer}
-use Rattle.fasttrack_program.specs.declared.answer.Answer.TheVariants.{Usage, ImageTooLong, BadImage, InputTooLong}
+use Rattle.fasttrack_program.specs.declared.answer.Answer.TheVariants.{Usage, ImageTooLong, BadImage, InputTooLong, JournalTooLong}
 use Rattle.fasttrack_program.specs.declared.options.Options.{Options}
 
--- the call is refused with this answer, or a promise is kept
+-- the call is refused with this answer, or a promise is kept, or a text is shown
 pub data Plan : Type 0 where
   Refused : Answer → Plan
   Does : Promise → Given → Plan
+  Shows : Showing → Plan
 
--- the bytes of the image file that the words name, and those of the input
+-- the bytes of the file that IMAGE names, those of the input, and those of the file of `--with`
 pub record Found : Type 0 where
   pub file : List ℕ
   pub input : List ℕ
+  pub beside : List ℕ
 
 abbrev pub options_of : Request → Options
 options_of r = record { tracks = r.tracks; workers = r.workers; budget = r.budget; report = r.report; journal = r.journal }
 
+-- ---- tasks
+
+-- the tasks that show a text of what they read; each other one runs a guest, and keeps a promise
+abbrev pub shows : Task → Bool
+shows Check = true
+shows At = true
+shows Tasks.List = true
+shows Pack = true
+shows _ = false
+
+-- the tasks that run the guest of an image file
+abbrev pub runs_file : Task → Bool
+runs_file Alone = true
+runs_file Run = true
+runs_file Trial = true
+runs_file _ = false
+
 -- ---- what is read
 
-abbrev pub is_file : Guest → Bool
-is_file FromFile = true
-is_file (ForBench number) = false
+-- what a task reads: the file that IMAGE names, the input, and the file of `--with`, in this order
+abbrev pub takes_file : Task → Bool
+takes_file (Bench number) = false
+takes_file _ = true
 
--- whether the words ask for an image file, and whether for the input
+abbrev pub takes_input : Task → Bool
+takes_input (Bench number) = false
+takes_input Tasks.List = false
+takes_input Pack = false
+takes_input _ = true
+
+abbrev pub takes_beside : Task → Bool
+takes_beside Check = true
+takes_beside At = true
+takes_beside _ = false
+
+-- whether the words ask for each of them
 abbrev pub reads_file : Option Request → Bool
 reads_file None = false
-reads_file (Some r) = is_file (promise_of r.task).guest
+reads_file (Some r) = takes_file r.task
 
 abbrev pub reads_input : Option Request → Bool
 reads_input None = false
-reads_input (Some r) = is_file (promise_of r.task).guest && not r.no_input
+reads_input (Some r) = takes_input r.task && not r.no_input
+
+abbrev pub reads_beside : Option Request → Bool
+reads_beside None = false
+reads_beside (Some r) = takes_beside r.task
 
 -- the most bytes of an image file and of an input
 abbrev pub image_limit : ℕ
@@ -46,6 +84,10 @@ image_limit = 33554432
 
 abbrev pub input_limit : ℕ
 input_limit = 16777216
+
+-- and of a journal
+abbrev pub journal_limit : ℕ
+journal_limit = 33554432
 
 -- a fault of an image, as an answer names it
 abbrev pub named_fault : Fault → ImageFault
@@ -79,32 +121,48 @@ bench_regions = 64
 abbrev pub bench_image : ℕ → Result Image Answer
 bench_image number = unless_bad (image (generated number bench_regions))
 
-abbrev pub image_for : Guest → List ℕ → Result Image Answer
-image_for FromFile file = image_in file
-image_for (ForBench number) file = bench_image number
+-- bytes of at most so many, or the answer that refuses them by their length
+abbrev pub bytes_in : ℕ → Answer → List ℕ → Result (List ℕ) Answer
+bytes_in limit too_long bytes = if nat_lt limit (length bytes) then Err too_long else Ok bytes
 
 -- the input that the guest gets, or the answer that refuses it: none where it is not read
 abbrev pub input_in : Bool → List ℕ → Result (List ℕ) Answer
 input_in false input = Ok []
-input_in true input = if nat_lt input_limit (length input) then Err InputTooLong else Ok input
+input_in true input = bytes_in input_limit InputTooLong input
+
+-- the journal in the file of `--with`, or the answer that refuses it
+abbrev pub journal_in : List ℕ → Result (List ℕ) Answer
+journal_in file = bytes_in journal_limit JournalTooLong file
 
 -- ---- the plan
 
-abbrev pub plan_on : Promise → Options → Image → Result (List ℕ) Answer → Plan
-plan_on p o i (Err answer) = Refused answer
-plan_on p o i (Ok input) = Does p (record { image = i; input = input; options = o })
+-- what is done with what was read, or the answer that refuses it
+abbrev pub after : {A : Type 0} → Result A Answer → (A → Plan) → Plan
+after (Ok x) next = next x
+after (Err answer) next = Refused answer
 
-abbrev pub plan_of : Promise → Options → Result Image Answer → Result (List ℕ) Answer → Plan
-plan_of p o (Err answer) input = Refused answer
-plan_of p o (Ok i) input = plan_on p o i input
+-- the program of an image file: first the image, then the input
+abbrev pub with_program : Request → Found → (Image → List ℕ → Plan) → Plan
+with_program r found next = after (image_in found.file) (λ i. after (input_in (not r.no_input) found.input) (next i))
+
+-- a task is done on a guest
+abbrev pub guest_plan : Request → Image → List ℕ → Plan
+guest_plan r i input = Does (promise_of r.task) (record { image = i; input = input; options = options_of r })
+
+-- a journal of a program is checked
+abbrev pub journal_plan : Request → Found → Image → List ℕ → Plan
+journal_plan r found i input = after (journal_in found.beside) (λ journal. Shows (OfJournal i input (settings_of (options_of r)) journal))
 
 -- a bench reads nothing
-abbrev pub bench_plan : ℕ → Options → Plan
-bench_plan number o = plan_of (promise_of (Bench number)) o (bench_image number) (Ok [])
+abbrev pub plan_for : Task → Request → Found → Plan
+plan_for (Bench number) r found = after (bench_image number) (λ i. guest_plan r i [])
+plan_for Check r found = with_program r found (journal_plan r found)
+plan_for At r found = with_program r found (λ i input. Shows (OfStates i input found.beside))
+plan_for Tasks.List r found = after (image_in found.file) (λ i. Shows (OfWords i))
+plan_for Pack r found = Shows (OfText found.file)
+plan_for _ r found = with_program r found (guest_plan r)
 
--- words, image, input: the first that refuses decides
+-- words, image, input, the file of `--with`: the first that refuses decides
 abbrev pub plan : Option Request → Found → Plan
 plan None found = Refused Usage
-plan (Some r) found =
-    let p = promise_of r.task in
-    plan_of p (options_of r) (image_for p.guest found.file) (input_in (reads_input (Some r)) found.input)
+plan (Some r) found = plan_for r.task r found

@@ -11,9 +11,11 @@ use Rattle.guest_model.specs.declared.end.End.{End}
 use Rattle.guest_streams.specs.GuestStreams.{end_of}
 use Rattle.worker_gate.specs.Histories.{IsRunHistory}
 use Rattle.program_words.specs.declared.request.Task.{Task}
-use Rattle.program_words.specs.declared.request.Task.TheVariants.{Alone, Run, Trial, Bench}
+use Rattle.program_words.specs.declared.request.Task.TheVariants as Tasks
+use Rattle.program_words.specs.declared.request.Task.TheVariants.{Alone, Run, Trial, Bench, Check, At, Pack}
 use Rattle.fasttrack_program.specs.Answers.{answer_of}
-use Rattle.fasttrack_program.specs.Reports.{program_report, bench_report, journal_text}
+use Rattle.journal_check.specs.Journals.{journal_text}
+use Rattle.fasttrack_program.specs.Reports.{program_report, bench_report}
 use Rattle.fasttrack_program.specs.declared.options.Options.{Options}
 use Rattle.fasttrack_program.specs.declared.answer.Answer.{Answer}
 use Rattle.fasttrack_program.specs.declared.answer.Answer.TheVariants.{Shown}
@@ -24,15 +26,8 @@ pub record Given : Type 0 where
   pub input : List ℕ
   pub options : Options
 
--- where the guest of a task comes from: the image file that the words name, behind which the input is read; or the
--- generator of programs for benches, for which nothing is read
-pub data Guest : Type 0 where
-  FromFile : Guest
-  ForBench : ℕ → Guest
-
 -- Stream 1 of what a task writes goes to `out`, stream 2 to `notes`.
 pub record Promise : Type 0 where
-  pub guest : Guest
   -- whether it is done with tracks, whose history it hands out
   pub has_tracks : Bool
   -- all that it writes, where its history has these entries
@@ -52,33 +47,41 @@ abbrev pub texts_behind : Given → List Entry → List ℕ
 texts_behind g entries =
     (if g.options.report then program_report g.image g.input g.options.budget else []) ++ (if g.options.journal then journal_text entries else [])
 
+-- A task that shows a text has no such promise: its plan says what it shows.
+abbrev pub no_promise : Promise
+no_promise = record {
+  has_tracks = false;
+  writes = λ g entries. [];
+  answer = λ g. Shown;
+}
+
 -- `alone` and `run` pass on the output of the program alone, `run` with the texts behind it, and end as the program does.
 -- `trial` and `bench` drop the output, and write a report instead.
 abbrev pub promise_of : Task → Promise
 promise_of Alone = record {
-  guest = FromFile;
   has_tracks = false;
   writes = λ g entries. output_of (alone_on g);
   answer = own_end;
 }
 promise_of Run = record {
-  guest = FromFile;
   has_tracks = true;
   writes = λ g entries. output_of (alone_on g) ++ marked 2 (texts_behind g entries);
   answer = own_end;
 }
 promise_of Trial = record {
-  guest = FromFile;
   has_tracks = false;
   writes = λ g entries. marked 1 (program_report g.image g.input g.options.budget);
   answer = λ g. Shown;
 }
 promise_of (Bench number) = record {
-  guest = ForBench number;
   has_tracks = true;
   writes = λ g entries. marked 1 (bench_report number g.image g.input g.options.budget);
   answer = λ g. Shown;
 }
+promise_of Check = no_promise
+promise_of At = no_promise
+promise_of Tasks.List = no_promise
+promise_of Pack = no_promise
 
 -- ---- the history of a task
 

@@ -7,7 +7,7 @@ use Rattle.elf32_loader.specs.LoadedImage.{image_of_loaded}
 use Rattle.elf32_loader.specs.declared.loaded.Loaded.{Loaded}
 use Rattle.guest_model.specs.Image.{Image}
 use Rattle.program_words.specs.CommandLine.{Request}
-use Rattle.fasttrack_program.specs.Plan.{Found, image_in, reads_file, reads_input}
+use Rattle.fasttrack_program.specs.Plan.{Found, image_in, input_in, reads_file, reads_input, reads_beside}
 use Rattle.fasttrack_program.specs.declared.answer.Answer.{Answer}
 use Rattle.fasttrack_program.specs.declared.answer.Answer.TheVariants.{Usage, ReadFault, ImageTooLong, BadImage, NoMemory}
 
@@ -17,21 +17,32 @@ use Rattle.fasttrack_program.specs.declared.answer.Answer.TheVariants.{Usage, Re
 abbrev pub Agrees : Option (List ℕ) → List ℕ → Type 0
 Agrees known bytes = IfSome known (λ all. bytes ≡ all)
 
--- what is known of the image file that the words name, and of the input
+-- what is known of the file that IMAGE names, of the input, and of the file of `--with`
 pub record Known : Type 0 where
   pub file : Option (List ℕ)
   pub input : Option (List ℕ)
+  pub beside : Option (List ℕ)
 
 pub record AgreesWith (known : Known) (found : Found) : Type 0 where
   pub file : Agrees known.file found.file
   pub input : Agrees known.input found.input
+  pub beside : Agrees known.beside found.beside
 
 abbrev pub known_file : {F : Type 0} → FilesRow F → Option Request → F → Option (List ℕ)
 known_file f None files = None
 known_file f (Some r) files = f.contents files r.image
 
+-- what is known of the file of `--with`
+abbrev pub known_named : {F : Type 0} → FilesRow F → Option (List ℕ) → F → Option (List ℕ)
+known_named f None files = None
+known_named f (Some name) files = f.contents files name
+
+abbrev pub known_beside : {F : Type 0} → FilesRow F → Option Request → F → Option (List ℕ)
+known_beside f None files = None
+known_beside f (Some r) files = known_named f r.with files
+
 abbrev pub known_of : {F I : Type 0} → FilesRow F → SourceRow I → Option Request → F → I → Known
-known_of f i request files input = record { file = known_file f request files; input = i.remaining input }
+known_of f i request files input = record { file = known_file f request files; input = i.remaining input; beside = known_beside f request files }
 
 -- ---- what is made of bytes that are read
 
@@ -63,6 +74,10 @@ IsRefusedEarly ImageTooLong = Unit {0}
 IsRefusedEarly (BadImage f) = Unit {0}
 IsRefusedEarly _ = ⊥
 
+-- the other answers, but for a failed read
+abbrev pub IsLate : Answer → Type 0
+IsLate answer = (answer ≢ ReadFault) × (IsRefusedEarly answer → ⊥)
+
 -- Below, `f` and `i` are the rows of the bounds of files and input: in a clause `F.Files` and `I.Source`.
 module _ {F I : Type 0} (f : FilesRow F) (i : SourceRow I) (request : Option Request) (files files' : F) (input input' : I) where
   -- the image file could not be read
@@ -81,10 +96,25 @@ module _ {F I : Type 0} (f : FilesRow F) (i : SourceRow I) (request : Option Req
     pub image : Image
     pub loads : image_in file ≡ Ok image
 
+  -- The file of `--with` could not be read, behind a file that holds an image without a fault, and an input within its limit
+  -- where it is wanted.
+  pub record BesideFails : Type 0 where
+    pub wanted : IsTrue (reads_beside request)
+    pub risen : Rose (f.faults files) (f.faults files')
+    pub calm : i.faults input' ≡ i.faults input
+    pub file : List ℕ
+    pub agrees : Agrees (known_file f request files) file
+    pub image : Image
+    pub loads : image_in file ≡ Ok image
+    pub given : List ℕ
+    pub input_agrees : Agrees (i.remaining input) given
+    pub taken : List ℕ
+    pub takes : input_in (reads_input request) given ≡ Ok taken
+
   -- A read that fails is counted and ends the call. Files and input are left alone where the words ask for none, and the
   -- input where the file is refused.
   pub record ReadsInOrder (answer : Answer) : Type 0 where
-    pub fault : answer ≡ ReadFault → FileFails ⊎ InputFails
+    pub fault : answer ≡ ReadFault → FileFails ⊎ InputFails ⊎ BesideFails
     pub counted : answer ≢ ReadFault → (f.faults files' ≡ f.faults files) × (i.faults input' ≡ i.faults input)
     pub no_file : reads_file request ≡ false → files' ≡ files
     pub no_input : reads_input request ≡ false → input' ≡ input

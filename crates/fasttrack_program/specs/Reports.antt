@@ -1,4 +1,4 @@
--- The report of a program: the rows of its ledger, their totals, and its end; its journal; and the summary of a bench
+-- The report of a program: the rows of its ledger, their totals, and its end; and the summary of a bench
 use Rattle.std.specs.Prelude.{ℕ, if◌then◌else◌, List, [], ◌∷◌, ◌++◌, length, map}
 use Rattle.speculation.specs.declared.history.Entry.{Entry}
 use Rattle.speculation.specs.Record.{output_of}
@@ -13,7 +13,7 @@ use Rattle.region_ledger.specs.declared.finished.Finished.{Finished}
 use Rattle.region_ledger.specs.declared.row.Row.{Row}
 use Rattle.region_ledger.specs.declared.verdict.Verdict.{Verdict}
 use Rattle.region_ledger.specs.declared.verdict.Verdict.TheVariants.{Kept, Differs, Stopped, Late}
-use Rattle.board_events.specs.Texts.{text_of}
+use Rattle.journal_check.specs.Journals.{journal_text}
 use Rattle.report_text.specs.Reports.{row_line, totals_line, end_line, bench_lines}
 use Rattle.guest_streams.specs.GuestStreams.{end_of}
 use Rattle.fasttrack_program.specs.declared.options.Options.{Options}
@@ -54,13 +54,6 @@ unfoldable pub bench_report : ℕ → Image → List ℕ → ℕ → List ℕ
 bench_report number i input budget =
     bench_lines number (totals_of (reported_ledger i input budget) (program_alone i input budget).count)
     (length (output_of (program_alone i input budget))) (end_of (program_alone i input budget).end)
-
--- ---- the journal
-
--- a line for each entry; 10 is the line feed
-abbrev pub journal_text : List Entry → List ℕ
-journal_text [] = []
-journal_text (x ∷ xs) = text_of x ++ (10 ∷ journal_text xs)
 
 -- ---- the texts that are asked for behind the guest's output, of these rows, this end and these entries
 

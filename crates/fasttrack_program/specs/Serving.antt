@@ -1,13 +1,17 @@
 -- How far the plan of a call is kept, up to the line of its answer
-use Rattle.std.specs.Prelude.{◌≡◌, if◌then◌else◌, List, Option, Some, None, ◌⊎◌}
+use Rattle.std.specs.Prelude.{◌≡◌, ℕ, if◌then◌else◌, List, Option, Some, None, Result, Ok, Err, ◌⊎◌}
 use Rattle.speculation.specs.declared.history.Entry.{Entry}
+use Rattle.speculation.specs.Run.{Mark, marked}
 use Rattle.guest_streams.specs.GuestStreams.{Sinks, GetsAll, GetsPart, StopsShort}
+use Rattle.guest_streams.specs.declared.fault.OutputFault.{OutputFault}
 use Rattle.program_words.specs.CommandLine.{Request}
-use Rattle.fasttrack_program.specs.Plan.{Found, Plan, Refused, Does, plan}
+use Rattle.fasttrack_program.specs.Answers.{answer_of_fault}
+use Rattle.fasttrack_program.specs.Plan.{Found, Plan, Refused, Does, Shows, plan}
+use Rattle.fasttrack_program.specs.Showing.{Showing, Tells}
 use Rattle.fasttrack_program.specs.Promise.{Given, Promise, IsHistory}
 use Rattle.fasttrack_program.specs.Reading.{Known, AgreesWith}
 use Rattle.fasttrack_program.specs.declared.answer.Answer.{Answer}
-use Rattle.fasttrack_program.specs.declared.answer.Answer.TheVariants.{ReadFault, WriteFault, NoMemory}
+use Rattle.fasttrack_program.specs.declared.answer.Answer.TheVariants.{Shown, ReadFault, WriteFault, NoMemory}
 use Rattle.fasttrack_program.specs.declared.served.Served.{Served}
 
 -- an answer without a history
@@ -18,13 +22,30 @@ plainly a = record { answer = a; history = None }
 abbrev pub wholly : Promise → Given → List Entry → Served
 wholly p g entries = record { answer = p.answer g; history = if p.has_tracks then Some entries else None }
 
--- How far a promise was kept: whole; or up to a byte that could not be written, since the sink of that byte failed; or up
--- to some byte, since memory ran out.
+-- How far an output was written: whole, and then the call was served so; or up to a byte that could not be written, since
+-- the sink of that byte failed; or up to some byte, since memory ran out.
+abbrev pub IsWritten : List Mark → Served → Sinks → Sinks → Served → Type 0
+IsWritten output whole old new s =
+    ((s ≡ whole) × GetsAll old new output)
+    ⊎ ((s ≡ plainly WriteFault) × StopsShort old new output)
+    ⊎ ((s ≡ plainly NoMemory) × GetsPart old new output)
+
+-- how far a promise was kept
 abbrev pub IsKept : Promise → Given → List Entry → Sinks → Sinks → Served → Type 0
-IsKept p g entries old new s =
-    ((s ≡ wholly p g entries) × GetsAll old new (p.writes g entries))
-    ⊎ ((s ≡ plainly WriteFault) × StopsShort old new (p.writes g entries))
-    ⊎ ((s ≡ plainly NoMemory) × GetsPart old new (p.writes g entries))
+IsKept p g entries old new s = IsWritten (p.writes g entries) (wholly p g entries) old new s
+
+-- how a call ends that has written a text
+abbrev pub shown : {A : Type 0} → Result A OutputFault → Served
+shown (Ok _) = plainly Shown
+shown (Err fault) = plainly (answer_of_fault fault)
+
+-- How far the text of a task was shown; or the answer that refuses what was read, of which nothing is shown; or want of
+-- memory before a text was found.
+abbrev pub IsShown : Showing → Sinks → Sinks → Served → Type 0
+IsShown x old new s =
+    ((text : List ℕ) × Tells x (Ok text) × IsWritten (marked 1 text) (plainly Shown) old new s)
+    ⊎ ((answer : Answer) × Tells x (Err answer) × (s ≡ plainly answer) × (new ≡ old))
+    ⊎ ((s ≡ plainly NoMemory) × (new ≡ old))
 
 -- the same with some entries, which are the history of the task
 pub record KeepsPromise (p : Promise) (g : Given) (old new : Sinks) (s : Served) : Type 0 where
@@ -36,6 +57,7 @@ pub record KeepsPromise (p : Promise) (g : Given) (old new : Sinks) (s : Served)
 abbrev pub Keeps : Plan → Sinks → Sinks → Served → Type 0
 Keeps (Refused answer) old new s = (s ≡ plainly answer) × (new ≡ old)
 Keeps (Does p g) old new s = KeepsPromise p g old new s
+Keeps (Shows x) old new s = IsShown x old new s
 
 -- a read failed, or memory ran out before the task was begun: nothing was written
 abbrev pub IsStopped : Sinks → Sinks → Served → Type 0

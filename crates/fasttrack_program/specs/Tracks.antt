@@ -1,5 +1,5 @@
 -- A guest, and a run of it with tracks
-use Rattle.std.specs.Prelude.{ℕ, List, IfSome, Option}
+use Rattle.std.specs.Prelude.{ℕ, List}
 use Rattle.speculation.specs.declared.history.Entry.{Entry}
 use Rattle.elf32_loader.specs.LoadedImage.{image_of_loaded}
 use Rattle.elf32_loader.specs.declared.loaded.Loaded.{Loaded}

@@ -1,11 +1,13 @@
 //! What the program answers, and its exit status.
 
 ghost use Rattle.std.specs.Prelude.{◌≡◌};
-ghost use Rattle.fasttrack_program.specs.Answers.{answer_of, answer_of_fault, status_of};
+ghost use Rattle.fasttrack_program.specs.Answers.{answer_of, answer_of_check, answer_of_fault, status_of};
 
 use elf32_loader::ImageFault;
 use guest_model::{End, Trap};
 use guest_streams::OutputFault;
+use journal_check::{CheckFault, JournalFault};
+use word_listing::TextPlace;
 
 /// How a call of the program ended.
 #[derive(Debug, Clone, Copy, PartialEq, Eq)]
@@ -16,11 +18,11 @@ pub enum Answer {
     Trapped(Trap, u32),
     /// The budget of instructions was spent before the guest ended.
     Spent,
-    /// The report or the summary was written whole.
+    /// What the task shows, a report, a summary or a text, was written whole.
     Shown,
     /// The words are no call of the program.
     Usage,
-    /// The image or the input could not be read.
+    /// The image file, the input, or the file of `--with` could not be read.
     ReadFault,
     /// The image file has more than 33,554,432 bytes.
     ImageTooLong,
@@ -28,7 +30,15 @@ pub enum Answer {
     BadImage(ImageFault),
     /// The input has more than 16,777,216 bytes.
     InputTooLong,
-    /// The guest's output, the report, or the line that says how the guest ended could not be written.
+    /// The journal has more than 33,554,432 bytes.
+    JournalTooLong,
+    /// The journal is that of no legal history with a finish.
+    BadJournal(JournalFault),
+    /// The file of counts is refused at this line.
+    BadCounts(u64),
+    /// The text of words is refused at this line and place.
+    BadText(TextPlace),
+    /// The guest's output, what the task shows, or the line that says how the guest ended could not be written.
     WriteFault,
     /// The host's memory ran out.
     NoMemory,
@@ -50,6 +60,10 @@ pub fn status(answer: &Answer) -> u8
         Answer::InputTooLong => 246,
         Answer::WriteFault => 247,
         Answer::NoMemory => 248,
+        Answer::JournalTooLong => 249,
+        Answer::BadJournal(_) => 250,
+        Answer::BadCounts(_) => 252,
+        Answer::BadText(_) => 253,
     }
 }
 
@@ -71,5 +85,15 @@ pub fn answer_of_fault(fault: OutputFault) -> Answer
     match fault {
         OutputFault::Write => Answer::WriteFault,
         OutputFault::NoMemory => Answer::NoMemory,
+    }
+}
+
+/// The answer of a check that was not done to its end.
+pub fn answer_of_check(fault: CheckFault) -> Answer
+    ensures { result ≡ answer_of_check fault }
+{
+    match fault {
+        CheckFault::Journal(fault) => Answer::BadJournal(fault),
+        CheckFault::NoMemory => Answer::NoMemory,
     }
 }

@@ -8,12 +8,13 @@ use crate::fault_text::FaultText;
 use elf32_loader::ImageFault;
 use guest_model::{NoMemory, Trap};
 use host_io::{Failed, Sink, write_whole};
+use journal_check::JournalFault;
 use report_text::{Address, trap_name};
 use std::alloc::Global;
+use word_listing::TextPlace;
 
 /// Writes the line of an answer on `notes`, and gives what the call answers: the same, or WriteFault where the line of a
-/// guest's end
-/// could not be written.
+/// guest's end could not be written.
 pub fn conclude<N: Sink>(alloc: Global, answer: Answer, notes: &mut N) -> Answer
     ensures { Concludes (N.contents notes.old) (N.contents notes.new) (N.faults notes.old) (N.faults notes.new) answer result }
 {
@@ -28,6 +29,19 @@ pub fn conclude<N: Sink>(alloc: Global, answer: Answer, notes: &mut N) -> Answer
             Ok(line) => write_line(notes, answer, line.as_str()),
             Err(NoMemory) => write_no_memory(notes),
         },
+        Answer::BadJournal(fault) => match journal_line(alloc, fault) {
+            Ok(line) => write_line(notes, answer, line.as_str()),
+            Err(NoMemory) => write_no_memory(notes),
+        },
+        Answer::BadCounts(line) => match counts_line(alloc, line) {
+            Ok(line) => write_line(notes, answer, line.as_str()),
+            Err(NoMemory) => write_no_memory(notes),
+        },
+        Answer::BadText(place) => match place_line(alloc, place) {
+            Ok(line) => write_line(notes, answer, line.as_str()),
+            Err(NoMemory) => write_no_memory(notes),
+        },
+        Answer::JournalTooLong => write_line(notes, answer, "fasttrack: journal too long\n"),
         Answer::Spent => write_line(notes, answer, "fasttrack: budget spent\n"),
         Answer::Usage => write_line(notes, answer, "fasttrack: bad words\n"),
         Answer::ReadFault => write_line(notes, answer, "fasttrack: read failed\n"),
@@ -79,4 +93,35 @@ fn fault_line(alloc: Global, fault: ImageFault) -> Result<String, NoMemory>
 {
     let fault = FaultText(fault);
     Ok(format!(in alloc; "fasttrack: bad image: {fault}\n")?)
+}
+
+/// The line of a journal that is refused.
+///
+/// # Errors
+/// `NoMemory` where there is no room for it.
+fn journal_line(alloc: Global, fault: JournalFault) -> Result<String, NoMemory>
+    ensures { IfOk result (λ text. line_of (Answer.BadJournal fault) ≡ Some (string_bytes text)) }
+{
+    Ok(format!(in alloc; "fasttrack: bad journal: {fault}\n")?)
+}
+
+/// The line of a file of counts that is refused.
+///
+/// # Errors
+/// `NoMemory` where there is no room for it.
+fn counts_line(alloc: Global, line: u64) -> Result<String, NoMemory>
+    ensures { IfOk result (λ text. line_of (Answer.BadCounts line) ≡ Some (string_bytes text)) }
+{
+    Ok(format!(in alloc; "fasttrack: bad counts: line {line}\n")?)
+}
+
+/// The line of a text of words that is refused.
+///
+/// # Errors
+/// `NoMemory` where there is no room for it.
+fn place_line(alloc: Global, at: TextPlace) -> Result<String, NoMemory>
+    ensures { IfOk result (λ text. line_of (Answer.BadText at) ≡ Some (string_bytes text)) }
+{
+    let TextPlace { line, place } = at;
+    Ok(format!(in alloc; "fasttrack: bad text: line {line} place {place}\n")?)
 }

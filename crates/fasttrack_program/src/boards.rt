@@ -6,14 +6,14 @@ ghost use Rattle.fasttrack_program.specs.Promise.{settings_of};
 ghost use Rattle.guest_streams.specs.GuestStreams.{sinks_of};
 ghost use Rattle.fasttrack_program.specs.Tracks.{board_for, HasOutcome, RunsTracks};
 
-use crate::options::Options;
+use crate::options::{Options, settings_in};
 use elf32_loader::Loaded;
 use guest_model::{Bytes, NoMemory};
 use host_io::{CountSink, Sink};
 use serial_run::{Conducted, conduct_serial};
 use std::alloc::Global;
 use std::sync::Arc;
-use track_board::{Board, Outcome, Settings};
+use track_board::{Board, Outcome};
 
 /// Runs a guest with tracks on one thread, `out` for its stream 1 and `notes` for its stream 2.
 pub fn run_tracks<O: Sink, N: Sink>(
@@ -74,9 +74,5 @@ pub fn make_board(
     requires { IsSettings (settings_of options.now) }
     ensures { IfOk result (λ b. b ≡ board_for loaded.now input options.now []) }
 {
-    let settings = Settings {
-        tracks: options.tracks,
-        budget: options.budget,
-    };
-    Board::new(alloc, loaded, Arc::new(alloc, input)?, settings)
+    Board::new(alloc, loaded, Arc::new(alloc, input)?, settings_in(options))
 }

@@ -1,12 +1,12 @@
 //! The guest on which a task is done.
 
-ghost use Rattle.std.specs.Prelude.{◌≡◌, Ok, Some, IfOk};
+ghost use Rattle.std.specs.Prelude.{◌≡◌, false, not, Ok, Some, IfOk, IsTrue};
 ghost use Rattle.guest_model.specs.Image.{image};
 ghost use Rattle.elf32_loader.specs.LoadedImage.{image_of_loaded};
 ghost use Rattle.program_words.specs.CommandLine.{asked};
 ghost use Rattle.rv32_asm.specs.Generated.{generated};
-ghost use Rattle.fasttrack_program.specs.Finding.{FindsGuest, ReadsGuest};
-ghost use Rattle.fasttrack_program.specs.Plan.{bench_regions};
+ghost use Rattle.fasttrack_program.specs.Finding.{FindsGuest, FindsProgram, ReadsFor};
+ghost use Rattle.fasttrack_program.specs.Plan.{bench_regions, shows, takes_input};
 ghost use Rattle.fasttrack_program.specs.Reading.{known_of};
 
 use crate::answer::Answer;
@@ -42,8 +42,9 @@ pub fn find_guest<F: Files, I: Source>(
     files: &mut F,
     input: &mut I,
 ) -> Result<LoadedGuest, Answer>
+    requires { shows request.now.task ≡ false }
     ensures found { let r = asked request.now in FindsGuest r (known_of F.Files I.Source (Some r) files.old input.old) result }
-    ensures reads { ReadsGuest F.Files I.Source (asked request.now) files.old files.new input.old input.new result }
+    ensures reads { ReadsFor F.Files I.Source (asked request.now) files.old files.new input.old input.new result }
     ensures held { F.contents files.new ≡ F.contents files.old }
 {
     if let Task::Bench(number) = request.task {
@@ -55,6 +56,25 @@ pub fn find_guest<F: Files, I: Source>(
             Err(NoMemory) => Err(Answer::NoMemory),
         };
     }
+    read_program(alloc, request, files, input)
+}
+
+/// Reads the program of a request: the image file and, unless it is to be left unread, the input.
+///
+/// # Errors
+/// `ReadFault` where a read failed, `ImageTooLong`, `BadImage` and `InputTooLong` where what was read is refused, and
+/// `NoMemory`.
+pub fn read_program<F: Files, I: Source>(
+    alloc: Global,
+    request: &Request<'_>,
+    files: &mut F,
+    input: &mut I,
+) -> Result<LoadedGuest, Answer>
+    requires { IsTrue (takes_input request.now.task) }
+    ensures found { let r = asked request.now in FindsProgram (not r.no_input) (known_of F.Files I.Source (Some r) files.old input.old) result }
+    ensures reads { ReadsFor F.Files I.Source (asked request.now) files.old files.new input.old input.new result }
+    ensures held { F.contents files.new ≡ F.contents files.old }
+{
     let loaded = match read_image(alloc, files, request.image) {
         Ok(loaded) => loaded,
         Err(answer) => return Err(answer),

@@ -51,8 +51,8 @@ pub fn has_tracks(task: Task) -> bool
     ensures { result ≡ (promise_of task).has_tracks }
 {
     match task {
-        Task::Alone | Task::Trial => false,
         Task::Run | Task::Bench(_) => true,
+        _ => false,
     }
 }
 

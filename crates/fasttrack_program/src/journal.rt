@@ -2,7 +2,7 @@
 
 ghost use Rattle.std.specs.Prelude.{◌++◌, ◌∷◌, []};
 ghost use Rattle.board_events.specs.Texts.{text_of};
-ghost use Rattle.fasttrack_program.specs.Reports.{journal_text};
+ghost use Rattle.journal_check.specs.Journals.{journal_text};
 ghost use Rattle.sink_text.specs.TextOnSink.{WritesOn};
 
 use board_events::{Entry, entry_text};

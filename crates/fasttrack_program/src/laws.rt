@@ -1,12 +1,13 @@
 //! Laws about definitions, each the contract of a function that does nothing.
 
-ghost use Rattle.std.specs.Prelude.{◌≡◌, ◌≤◌, ◌⊎◌, ℕ, false, IsTrue, if◌then◌else◌, List, [], ◌++◌, length, map, Ok, Option, Some};
+ghost use Rattle.std.specs.Prelude.{◌≡◌, ◌≤◌, ◌⊎◌, ℕ, false, IsTrue, if◌then◌else◌, List, [], ◌++◌, length, map, Ok, Err, Option, Some};
 ghost use Rattle.host_io.specs.Faults.{Rose};
 ghost use Rattle.guest_model.specs.Image.{Image, image};
 ghost use Rattle.guest_model.specs.declared.difference.Difference.{Difference};
 ghost use Rattle.program_words.specs.CommandLine.{Request};
 ghost use Rattle.program_words.specs.declared.request.Task.{Task};
-ghost use Rattle.program_words.specs.declared.request.Task.TheVariants.{Alone, Run, Trial, Bench};
+ghost use Rattle.program_words.specs.declared.request.Task.TheVariants as Tasks;
+ghost use Rattle.program_words.specs.declared.request.Task.TheVariants.{Alone, Run, Trial, Bench, Check, At, Pack};
 ghost use Rattle.guest_streams.specs.GuestStreams.{Sinks, StopsShort};
 ghost use Rattle.region_ledger.specs.Ledger.{ledger_rows};
 ghost use Rattle.region_ledger.specs.declared.row.Row.{Row};
@@ -19,10 +20,11 @@ ghost use Rattle.speculation.specs.declared.history.Settings.{Settings};
 ghost use Rattle.guest_model.specs.Rv32.{rv32};
 ghost use Rattle.track_board.specs.Value.{GuestCore};
 ghost use Rattle.serial_run.specs.Quiet.{IsQuiet};
-ghost use Rattle.fasttrack_program.specs.Completeness.{DoesAll, IsComplete};
-ghost use Rattle.fasttrack_program.specs.Plan.{Does, Found, bench_image, image_limit, input_limit, is_file, options_of, plan};
-ghost use Rattle.fasttrack_program.specs.Promise.{Given, promise_of};
+ghost use Rattle.fasttrack_program.specs.Completeness.{DoesAll, ShowsAll, IsComplete};
+ghost use Rattle.fasttrack_program.specs.Plan.{Does, Found, bench_image, image_limit, input_limit, journal_limit, options_of, plan, runs_file, shows};
+ghost use Rattle.fasttrack_program.specs.Promise.{Given, promise_of, settings_of};
 ghost use Rattle.fasttrack_program.specs.Reading.{Known};
+ghost use Rattle.fasttrack_program.specs.Showing.{Showing, OfJournal, OfStates, OfWords, OfText, Tells};
 ghost use Rattle.fasttrack_program.specs.Reports.{program_report, bench_report, reported_row};
 ghost use Rattle.sink_text.specs.TextOnSink.{StoppedInText};
 ghost use Rattle.fasttrack_program.specs.declared.answer.Answer.{Answer};
@@ -36,10 +38,10 @@ pub fn reports_fail_on_out()
         → StoppedInText old.out new.out (bench_report number given.image given.input given.options.budget) × Rose old.out_faults new.out_faults }
 {}
 
-/// A request is done, and not refused, where the image file is within its limit and has no fault, and the input is within
-/// its limit, if it is wanted. A bench needs neither.
+/// A request for a task on a guest is done, and not refused, where the image file is within its limit and has no fault, and
+/// the input is within its limit, if it is wanted. A bench needs neither.
 pub fn good_calls_run()
-    ensures image { (request : Request) (found : Found) (i : Image) → IsTrue (is_file (promise_of request.task).guest) → length found.file ≤ image_limit → image found.file ≡ Ok i → (request.no_input ≡ false → length found.input ≤ input_limit)
+    ensures image { (request : Request) (found : Found) (i : Image) → IsTrue (runs_file request.task) → length found.file ≤ image_limit → image found.file ≡ Ok i → (request.no_input ≡ false → length found.input ≤ input_limit)
         → plan (Some request) found ≡ Does (promise_of request.task) (record { image = i; input = if request.no_input then [] else found.input; options = options_of request }) }
     ensures bench { (request : Request) (found : Found) (number : ℕ) → request.task ≡ Bench number
         → (i : Image) × (plan (Some request) found ≡ Does (promise_of (Bench number)) (record { image = i; input = []; options = options_of request })) }
@@ -50,11 +52,34 @@ pub fn good_calls_run()
 /// image file is within its limit and has no fault, and the input is within its limit, if it is wanted. A bench needs
 /// neither.
 pub fn good_calls_are_done()
-    ensures image { (request : Request) (known : Option (List ℕ)) (file input : List ℕ) (i : Image) (old new : Sinks) (answer : Answer) → IsComplete (Some request) (record { file = Some file; input = known }) old new answer
-        → IsTrue (is_file (promise_of request.task).guest) → length file ≤ image_limit → image file ≡ Ok i → (request.no_input ≡ false → (known ≡ Some input) × (length input ≤ input_limit))
+    ensures image { (request : Request) (known : Known) (file input : List ℕ) (i : Image) (old new : Sinks) (answer : Answer) → IsComplete (Some request) known old new answer
+        → IsTrue (runs_file request.task) → known.file ≡ Some file → length file ≤ image_limit → image file ≡ Ok i
+        → (request.no_input ≡ false → (known.input ≡ Some input) × (length input ≤ input_limit))
         → (answer ≡ Answer.NoMemory) ⊎ DoesAll (promise_of request.task) (record { image = i; input = if request.no_input then [] else input; options = options_of request }) old new answer }
     ensures bench { (request : Request) (known : Known) (number : ℕ) (old new : Sinks) (answer : Answer) → IsComplete (Some request) known old new answer
         → request.task ≡ Bench number → (answer ≡ Answer.NoMemory) ⊎ ((i : Image) × DoesAll (promise_of (Bench number)) (record { image = i; input = []; options = options_of request }) old new answer) }
+{}
+
+/// The same of the tasks that show a text: the whole text is shown, or what was read is refused with its own answer, or memory
+/// ran out.
+pub fn good_texts_are_shown()
+    ensures check { (request : Request) (known : Known) (file input : List ℕ) (i : Image) → known.file ≡ Some file → length file ≤ image_limit → image file ≡ Ok i
+        → (request.no_input ≡ false → (known.input ≡ Some input) × (length input ≤ input_limit))
+        → (journal : List ℕ) (old new : Sinks) (answer : Answer) → IsComplete (Some request) known old new answer → request.task ≡ Check → known.beside ≡ Some journal → length journal ≤ journal_limit
+        → (answer ≡ Answer.NoMemory) ⊎ ShowsAll (OfJournal i (if request.no_input then [] else input) (settings_of (options_of request)) journal) old new answer }
+    ensures at_counts { (request : Request) (known : Known) (file input : List ℕ) (i : Image) → known.file ≡ Some file → length file ≤ image_limit → image file ≡ Ok i
+        → (request.no_input ≡ false → (known.input ≡ Some input) × (length input ≤ input_limit))
+        → (counts : List ℕ) (old new : Sinks) (answer : Answer) → IsComplete (Some request) known old new answer → request.task ≡ At → known.beside ≡ Some counts
+        → (answer ≡ Answer.NoMemory) ⊎ ShowsAll (OfStates i (if request.no_input then [] else input) counts) old new answer }
+    ensures list { (request : Request) (known : Known) (file : List ℕ) → known.file ≡ Some file → (old new : Sinks) (answer : Answer) (i : Image) → IsComplete (Some request) known old new answer
+        → request.task ≡ Tasks.List → length file ≤ image_limit → image file ≡ Ok i → (answer ≡ Answer.NoMemory) ⊎ ShowsAll (OfWords i) old new answer }
+    ensures pack { (request : Request) (known : Known) (file : List ℕ) → known.file ≡ Some file → (old new : Sinks) (answer : Answer) → IsComplete (Some request) known old new answer
+        → request.task ≡ Pack → (answer ≡ Answer.NoMemory) ⊎ ShowsAll (OfText file) old new answer }
+{}
+
+/// What was read has a text or a refusal, and never both. So a call that is complete shows the text of whatever is not refused.
+pub fn what_is_shown_is_not_refused()
+    ensures { (x : Showing) (text : List ℕ) (answer : Answer) → Tells x (Ok text) → Tells x (Err answer) → ⊥ }
 {}
 
 /// The image of the bench of every number has no fault. So no bench is refused for its image.
@@ -92,6 +117,9 @@ pub fn output_never_depends_on_workers()
         → (promise_of task).writes (record given { options = record given.options { workers = workers } }) entries ≡ (promise_of task).writes given others }
     ensures answers { (task : Task) (given : Given) (workers : ℕ)
         → (promise_of task).answer (record given { options = record given.options { workers = workers } }) ≡ (promise_of task).answer given }
+    // What the other tasks show doesn't either.
+    ensures texts { (request : Request) (found : Found) (workers : ℕ) → IsTrue (shows request.task)
+        → plan (Some (record request { workers = workers })) found ≡ plan (Some request) found }
 {}
 
 /// Output waits until it is verified: a release hands out exactly the verified bytes, which are those of judged tracks and

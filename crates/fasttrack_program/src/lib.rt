@@ -15,9 +15,11 @@ mod read;
 mod report;
 mod serve;
 mod served;
+mod show;
 mod show_bench;
 mod show_run;
 mod show_trial;
+mod subject;
 mod top;
 mod workers;
 

@@ -3,8 +3,10 @@
 ghost use Rattle.std.specs.Prelude.{◌≡◌};
 ghost use Rattle.program_words.specs.CommandLine.{asked};
 ghost use Rattle.fasttrack_program.specs.Plan.{options_of};
+ghost use Rattle.fasttrack_program.specs.Promise.{settings_of};
 
 use program_words::Request;
+use track_board::Settings;
 
 /// How a task is done.
 #[derive(Clone, Copy, Debug, PartialEq, Eq)]
@@ -31,5 +33,15 @@ pub fn options_in(request: &Request<'_>) -> Options
         budget: request.budget,
         report: request.report,
         journal: request.journal,
+    }
+}
+
+/// The settings of a board for these options.
+pub fn settings_in(options: &Options) -> Settings
+    ensures { result ≡ settings_of options.now }
+{
+    Settings {
+        tracks: options.tracks,
+        budget: options.budget,
     }
 }

@@ -1,8 +1,8 @@
-//! Reading the image and the input.
+//! Reading an image, the input, and other files.
 
 ghost use Rattle.std.specs.Prelude.{◌≡◌, false, IsOk};
-ghost use Rattle.fasttrack_program.specs.Plan.{image_in, input_in};
-ghost use Rattle.fasttrack_program.specs.Reading.{CountsReadFault, Reads, loaded_image};
+ghost use Rattle.fasttrack_program.specs.Plan.{bytes_in, image_in, input_in};
+ghost use Rattle.fasttrack_program.specs.Reading.{CountsReadFault, IsLate, Reads, loaded_image};
 
 use crate::answer::Answer;
 use basic_types::MOST_INPUT;
@@ -50,6 +50,30 @@ pub fn read_input<I: Source>(alloc: Global, wanted: bool, input: &mut I) -> Resu
     match take_source(alloc, input, MOST_INPUT) {
         Took::Failed => Err(Answer::ReadFault),
         Took::TooLong => Err(Answer::InputTooLong),
+        Took::NoMemory => Err(Answer::NoMemory),
+        Took::Whole(bytes) => Ok(bytes),
+    }
+}
+
+/// Reads the file `name` whole, if it has at most `limit` bytes.
+///
+/// # Errors
+/// `ReadFault` where a read failed, `too_long` where there are more bytes, and `NoMemory`.
+pub fn read_file<F: Files>(
+    alloc: Global,
+    files: &mut F,
+    name: &str,
+    limit: u64,
+    too_long: Answer,
+) -> Result<Bytes, Answer>
+    requires { IsLate too_long }
+    ensures reads { Reads (bytes_in limit too_long) (F.contents files.old name.now) result }
+    ensures counted { CountsReadFault (F.faults files.old) (F.faults files.new) result }
+    ensures held { F.contents files.new ≡ F.contents files.old }
+{
+    match take_file(alloc, files, name, limit) {
+        Took::Failed => Err(Answer::ReadFault),
+        Took::TooLong => Err(too_long),
         Took::NoMemory => Err(Answer::NoMemory),
         Took::Whole(bytes) => Ok(bytes),
     }

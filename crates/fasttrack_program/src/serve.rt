@@ -1,11 +1,11 @@
 //! One call of the program up to its answer's line.
 
 ghost use Rattle.std.specs.Prelude.{◌≡◌, ◌≤◌, Some, IsTrue, false};
-ghost use Rattle.guest_streams.specs.GuestStreams.{sinks_of};
-ghost use Rattle.program_words.specs.CommandLine.{asked};
+ghost use Rattle.guest_streams.specs.GuestStreams.{Sinks, sinks_of, with_out};
+ghost use Rattle.program_words.specs.CommandLine.{HasFile, asked};
 ghost use Rattle.program_words.specs.declared.request.Task.TheVariants.{Alone};
 ghost use Rattle.track_board.specs.Value.{IsSettings};
-ghost use Rattle.fasttrack_program.specs.Plan.{options_of};
+ghost use Rattle.fasttrack_program.specs.Plan.{options_of, shows};
 ghost use Rattle.fasttrack_program.specs.Promise.{promise_of, settings_of};
 ghost use Rattle.fasttrack_program.specs.Reading.{ReadsInOrder, known_of};
 ghost use Rattle.fasttrack_program.specs.Serving.{IsServed, KeepsPromise};
@@ -17,9 +17,11 @@ use crate::answer::{Answer, answer_of, answer_of_fault};
 use crate::guest::{LoadedGuest, find_guest};
 use crate::options::{Options, options_in};
 use crate::served::{Served, plain};
+use crate::show::show;
 use crate::show_bench::{show_bench, show_bench_with_workers};
 use crate::show_run::{show_run, show_run_with_workers};
 use crate::show_trial::show_trial;
+use crate::subject::find_subject;
 use guest_model::{FlatMemory, Regs, State};
 use host_io::{Files, Sink, Source};
 use program_words::{Request, Task};
@@ -68,6 +70,7 @@ fn do_task<O: Sink, N: Sink>(
 ) -> Served
     requires settings { IsSettings (settings_of options.now) }
     requires alone { IsTrue (promise_of task).has_tracks → options.now.workers ≡ 0 }
+    requires guest { shows task ≡ false }
     ensures { KeepsPromise (promise_of task) (given_of guest.loaded guest.input options.now)
         (sinks_of O.Sink N.Sink out.old notes.old) (sinks_of O.Sink N.Sink out.new notes.new) result }
 {
@@ -76,6 +79,7 @@ fn do_task<O: Sink, N: Sink>(
         Task::Run => show_run(alloc, guest, options, out, notes),
         Task::Trial => show_trial(alloc, &guest, options, out),
         Task::Bench(number) => show_bench(alloc, number, guest, options, out),
+        Task::Check | Task::At | Task::List | Task::Pack => unreachable!(),
     }
 }
 
@@ -102,11 +106,18 @@ fn do_with_workers<R: Threads + Wait + Clock + Sync, O: Sink, N: Sink, G: Gate +
         Task::Bench(number) => {
             show_bench_with_workers(rt, alloc, number, guest, options, out, gate)
         }
-        Task::Alone | Task::Trial => unreachable!(),
+        _ => unreachable!(),
     }
 }
 
-/// Finds the guest of a request and does its task, on one thread.
+/// Whether a task shows a text of what it read, and runs no guest.
+fn shows_text(task: Task) -> bool
+    ensures { result ≡ shows task }
+{
+    matches!(task, Task::Check | Task::At | Task::List | Task::Pack)
+}
+
+/// Does the task of a request, on one thread.
 pub fn serve_request<F: Files, I: Source, O: Sink, N: Sink>(
     alloc: Global,
     request: &Request<'_>,
@@ -117,6 +128,54 @@ pub fn serve_request<F: Files, I: Source, O: Sink, N: Sink>(
 ) -> Served
     requires settings { IsSettings (settings_of (options_of (asked request.now))) }
     requires alone { needs_workers (Some (asked request.now)) ≡ false }
+    requires file { HasFile request.now.task (asked request.now).with }
+    ensures served { let request = Some (asked request.now) in
+        IsServed request (known_of F.Files I.Source request files.old input.old)
+        (sinks_of O.Sink N.Sink out.old notes.old) (sinks_of O.Sink N.Sink out.new notes.new) result }
+    ensures reads { ReadsInOrder F.Files I.Source (Some (asked request.now)) files.old files.new input.old input.new result.answer }
+    ensures held { F.contents files.new ≡ F.contents files.old }
+{
+    if shows_text(request.task) {
+        return serve_text(alloc, request, files, input, out);
+    }
+    serve_guest(alloc, request, files, input, out, notes)
+}
+
+/// Finds the subject of a request, and shows its text.
+fn serve_text<F: Files, I: Source, O: Sink>(
+    alloc: Global,
+    request: &Request<'_>,
+    files: &mut F,
+    input: &mut I,
+    out: &mut O,
+) -> Served
+    requires settings { IsSettings (settings_of (options_of (asked request.now))) }
+    requires shows { IsTrue (shows request.now.task) }
+    requires file { HasFile request.now.task (asked request.now).with }
+    ensures served { (s : Sinks) → let request = Some (asked request.now) in
+        IsServed request (known_of F.Files I.Source request files.old input.old) (with_out O.Sink out.old s) (with_out O.Sink out.new s) result }
+    ensures reads { ReadsInOrder F.Files I.Source (Some (asked request.now)) files.old files.new input.old input.new result.answer }
+    ensures held { F.contents files.new ≡ F.contents files.old }
+{
+    let options = options_in(request);
+    match find_subject(alloc, request, files, input) {
+        Ok(subject) => show(alloc, subject, &options, out),
+        Err(answer) => plain(answer),
+    }
+}
+
+/// Finds the guest of a request and does its task, on one thread.
+fn serve_guest<F: Files, I: Source, O: Sink, N: Sink>(
+    alloc: Global,
+    request: &Request<'_>,
+    files: &mut F,
+    input: &mut I,
+    out: &mut O,
+    notes: &mut N,
+) -> Served
+    requires settings { IsSettings (settings_of (options_of (asked request.now))) }
+    requires alone { needs_workers (Some (asked request.now)) ≡ false }
+    requires guest { shows request.now.task ≡ false }
     ensures served { let request = Some (asked request.now) in
         IsServed request (known_of F.Files I.Source request files.old input.old)
         (sinks_of O.Sink N.Sink out.old notes.old) (sinks_of O.Sink N.Sink out.new notes.new) result }
@@ -130,7 +189,7 @@ pub fn serve_request<F: Files, I: Source, O: Sink, N: Sink>(
     }
 }
 
-/// The same for a request that asks for workers, by these.
+/// Finds the guest of a request that asks for workers, and does its task by these.
 pub fn serve_with_workers<
     R: Threads + Wait + Clock + Sync,
     F: Files,

@@ -1,4 +1,4 @@
-//! The top calls: words, image, input, run, and the answer's line, in this order.
+//! The top calls: words, image, input, the file of `--with`, the task, and the answer's line, in this order.
 
 ghost use Rattle.std.specs.Prelude.{◌≡◌, ◌<◌, IfOk, IfSome, IsSome, IsTrue, Some, map, option_map, string_bytes, vec_len, vec_capacity};
 ghost use Rattle.guest_streams.specs.GuestStreams.{sinks_of};
@@ -31,21 +31,24 @@ use worker_gate::Gate;
 /// What is promised holds for every order in which threads get their turns, if the call returns. Without workers it is
 /// `plain_main`, which returns.
 ///
-/// - **Answer and output** (`answered`). The call keeps the plan that the words, the image file and the input ask for:
-///   `specs/Promise.antt` says of each task what it writes on `out` and `notes`, and what it answers once all of that is
-///   written. What the two got is always a beginning of it. WriteFault comes only where one of them failed, and then at a
-///   byte of its own; NoMemory anywhere. Behind it `notes` get one line for every answer but Exited and Shown. `told` gets
-///   the history of a task with tracks, exactly where it was done whole and its answer's line was not lost: without
-///   workers the serial history, with workers a legal one that has a finish, whose loans went to seats up to their number.
+/// - **Answer and output** (`answered`). The call keeps the plan that the words, the files and the input ask for:
+///   `specs/Promise.antt` says of each task on a guest what it writes on `out` and `notes`, and what it answers once all of
+///   that is written; `specs/Showing.antt` says of each other task the text that it shows, or why what was read is refused.
+///   What the two got is always a beginning of it. WriteFault comes only where one of them failed, and then at a byte of its
+///   own; NoMemory anywhere. Behind it `notes` get one line for every answer but Exited and Shown. `told` gets the history of
+///   a task with tracks, exactly where it was done whole and its answer's line was not lost: without workers the serial
+///   history, with workers a legal one that has a finish, whose loans went to seats up to their number.
 /// - **Completeness** (`complete`). Where no count of faults rose, all of the plan was done, or memory ran out. With
-///   `laws::good_calls_are_done`: accepted words, an image without a fault and an input within its limit give the
-///   program's own end with all of its output, or Shown with the whole report.
+///   `laws::good_calls_are_done` and `laws::good_texts_are_shown`: accepted words, an image without a fault and an input
+///   within its limit give the program's own end with all of its output, or Shown with the whole report or text.
 /// - **Order and refusals** (`answered`, `reads`). The first that refuses decides: the words (Usage); whether the image
 ///   file can be read (ReadFault), its length, at most 33,554,432 bytes (ImageTooLong), and its first fault (BadImage);
 ///   unless it is to be left unread, whether the input can be read (ReadFault) and its length, at most 16,777,216 bytes
-///   (InputTooLong). Then the task is done.
-/// - **Reads** (`reads`). Only what the task reads is read, the input behind an image without a fault. A read that fails
-///   is counted, and ends the call.
+///   (InputTooLong); whether the file of `--with` can be read (ReadFault), the length of a journal, at most 33,554,432 bytes
+///   (JournalTooLong), its first bad line (BadJournal), and that of a file of counts (BadCounts). Then the task is done. Of
+///   the text that is packed, IMAGE names the file: its first bad line and place (BadText) stand behind its read.
+/// - **Reads** (`reads`). Only what the task reads is read, the input behind an image without a fault, the file of `--with`
+///   behind both. A read that fails is counted, and ends the call.
 /// - **Files** (`held`). What `files` hold is as before.
 pub fn fasttrack_main<
     R: Threads + Wait + Clock + Sync,

@@ -14,6 +14,9 @@ const MOST_WORDS: usize = 1000;
 /// How many regions a generated program has at most.
 const MOST_REGIONS: u32 = 4096;
 
+/// How many times a line repeats the bytes of a block at most.
+const MOST_TIMES: usize = 1 << 20;
+
 /// How many bytes a line makes at most.
 const MOST_BYTES: usize = 1 << 26;
 
@@ -38,6 +41,7 @@ pub fn append_line(
         "zeros" => append_zeros(bytes, rest),
         "all" => Ok(bytes.extend_from_slice(block(blocks, rest)?)?),
         "part" => append_part(blocks, bytes, rest),
+        "times" => append_times(blocks, bytes, rest),
         "program" => append_program(alloc, bytes, block(blocks, rest)?),
         "generated" => append_generated(alloc, bytes, rest),
         "at" => overwrite(bytes, rest),
@@ -92,6 +96,23 @@ fn append_part(blocks: &Blocks, bytes: &mut Vec<u8>, text: &str) -> Result<(), F
         Some(part) => Ok(bytes.extend_from_slice(part)?),
         None => Err(Fault::Unreadable),
     }
+}
+
+/// COUNT NAME: the bytes of a block so many times.
+fn append_times(blocks: &Blocks, bytes: &mut Vec<u8>, text: &str) -> Result<(), Fault> {
+    let (count, name) = split_word(text);
+    let count = count.parse::<usize>()?;
+    let part = block(blocks, name)?;
+    if count > MOST_TIMES {
+        return Err(Fault::Unreadable);
+    }
+    for _time in 0..count {
+        if bytes.len() > MOST_BYTES {
+            return Err(Fault::Unreadable);
+        }
+        bytes.extend_from_slice(part)?;
+    }
+    Ok(())
 }
 
 /// The small image of the words in a block.

@@ -46,10 +46,18 @@ struct Objects {
     told: Histories,
 }
 
-/// The file `g`.
-fn files_of(alloc: Global, file: &[u8], failing: &[u64]) -> Result<MemoryFiles, Fault> {
+/// The file `g`, and the file `h` where there is one.
+fn files_of(
+    alloc: Global,
+    file: &[u8],
+    beside: Option<&[u8]>,
+    failing: &[u64],
+) -> Result<MemoryFiles, Fault> {
     let mut files = MemoryFiles::new(alloc, Vec::from_slice(alloc, failing)?);
     files.add(String::from_str(alloc, "g")?, bytes_of(alloc, file)?)?;
+    if let Some(beside) = beside {
+        files.add(String::from_str(alloc, "h")?, bytes_of(alloc, beside)?)?;
+    }
     Ok(files)
 }
 
@@ -58,10 +66,15 @@ fn input_of(alloc: Global, input: &[u8], failing: &[u64]) -> Result<MemorySource
     Ok(MemorySource::new(bytes, Vec::from_slice(alloc, failing)?))
 }
 
-/// What a run gives the program, where these calls fail.
-fn objects_of(alloc: Global, run: &Run, failing: Failing<'_>) -> Result<Objects, Fault> {
+/// What a run gives the program, with this file `h`, where these calls fail.
+fn objects_of(
+    alloc: Global,
+    run: &Run,
+    beside: Option<&[u8]>,
+    failing: Failing<'_>,
+) -> Result<Objects, Fault> {
     Ok(Objects {
-        files: files_of(alloc, run.file.as_slice(), failing.files)?,
+        files: files_of(alloc, run.file.as_slice(), beside, failing.files)?,
         input: input_of(alloc, run.input.as_slice(), failing.input)?,
         out: sink(alloc, failing.out)?,
         notes: sink(alloc, failing.notes)?,
@@ -96,7 +109,19 @@ pub fn call<R: Threads + Wait + Clock + Sync>(
     words: &[String],
     failing: Failing<'_>,
 ) -> Result<Got, Fault> {
-    let mut objects = objects_of(alloc, run, failing)?;
+    call_beside(rt, alloc, run, words, run.beside(), failing)
+}
+
+/// The same, with this file `h`.
+pub fn call_beside<R: Threads + Wait + Clock + Sync>(
+    rt: &R,
+    alloc: Global,
+    run: &Run,
+    words: &[String],
+    beside: Option<&[u8]>,
+    failing: Failing<'_>,
+) -> Result<Got, Fault> {
+    let mut objects = objects_of(alloc, run, beside, failing)?;
     let answer = answer_of(rt, alloc, words, &mut objects);
     Ok(Got {
         answer: format!(in alloc; "{answer:?}")?,

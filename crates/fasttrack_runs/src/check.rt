@@ -3,6 +3,7 @@
 use crate::call::{Got, call};
 use crate::each::check_each;
 use crate::fault::Fault;
+use crate::journal::{is_journal_taken, with_journal};
 use crate::run::Run;
 use std::rt::Clock;
 use std::sync::Wait;
@@ -49,10 +50,12 @@ fn check_call<R: Print + AllocGlobal + Threads + Wait + Clock + Sync>(
     wanted: Wanted<'_>,
 ) -> Result<bool, Fault> {
     let got = call(rt, rt.alloc(), run, words, run.failing())?;
+    let wanted = with_journal(run, &got, wanted);
     Ok(
         is_as_wanted(rt, run.name.as_str(), &got, wanted)?
             && is_told(rt, run, &got)?
-            && check_each(rt, run, words, wanted)?,
+            && check_each(rt, run, words, wanted)?
+            && is_journal_taken(rt, run, words, &got)?,
     )
 }
 

@@ -7,6 +7,7 @@ mod call;
 mod check;
 mod each;
 mod fault;
+mod journal;
 mod run;
 mod wanted;
 

@@ -24,6 +24,8 @@ pub struct Run {
     pub workers: Vec<String>,
     /// The file `g`.
     pub file: Vec<u8>,
+    /// The file `h`, if there is one.
+    beside: Option<Vec<u8>>,
     pub input: Vec<u8>,
     failing_files: Vec<u64>,
     failing_input: Vec<u64>,
@@ -42,6 +44,8 @@ pub struct Run {
     pub history: Pieces,
     /// Beginnings of lines of the history, and how many lines begin so.
     pub counts: Vec<(usize, String)>,
+    /// What a check of the journal that is printed must tell behind its first line, if the journal is checked.
+    pub checked: Pieces,
 }
 
 /// The sink whose calls fail each in turn.
@@ -62,6 +66,7 @@ impl Run {
             words: Vec::new(alloc),
             workers: Vec::new(alloc),
             file: Vec::new(alloc),
+            beside: None,
             input: Vec::new(alloc),
             failing_files: Vec::new(alloc),
             failing_input: Vec::new(alloc),
@@ -75,6 +80,7 @@ impl Run {
             histories: 0,
             history: Pieces::new(alloc),
             counts: Vec::new(alloc),
+            checked: Pieces::new(alloc),
         })
     }
 
@@ -87,6 +93,19 @@ impl Run {
         words.push(String::from_str(alloc, "--workers")?)?;
         words.push(String::from_str(alloc, workers)?)?;
         Ok(words)
+    }
+
+    /// The file `h`, if there is one.
+    pub fn beside(&self) -> Option<&[u8]> {
+        match &self.beside {
+            Some(bytes) => Some(bytes.as_slice()),
+            None => None,
+        }
+    }
+
+    /// Whether the journal that is printed is checked.
+    pub fn is_checked(&self) -> bool {
+        !self.checked.all().is_empty()
     }
 
     /// Which calls of each object fail.
@@ -122,14 +141,27 @@ impl Run {
             "words" => read_words(alloc, &mut self.words, rest),
             "workers" => read_words(alloc, &mut self.workers, rest),
             "file" => append_line(alloc, blocks, &mut self.file, rest),
+            "beside" => self.read_beside(alloc, blocks, rest),
             "input" => append_line(alloc, blocks, &mut self.input, rest),
             "fails" => self.read_failing(rest),
             "each" => self.read_each(rest),
             "out" => self.out.read_line(alloc, blocks, rest),
             "notes" => self.notes.read_line(alloc, blocks, rest),
             "history" => self.history.read_line(alloc, blocks, rest),
+            "checked" => self.checked.read_line(alloc, blocks, rest),
             _ => self.read_end(alloc, key, rest),
         }
+    }
+
+    /// Appends to the file `h`, which is there from the first such line on.
+    fn read_beside(&mut self, alloc: Global, blocks: &Blocks, line: &str) -> Result<(), Fault> {
+        let mut bytes = match self.beside.take() {
+            Some(bytes) => bytes,
+            None => Vec::new(alloc),
+        };
+        append_line(alloc, blocks, &mut bytes, line)?;
+        self.beside = Some(bytes);
+        Ok(())
     }
 
     /// Takes in what a line says of the answer, or of how many histories there are.

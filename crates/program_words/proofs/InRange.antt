@@ -1,9 +1,10 @@
 -- The numbers of a request that words make are in their ranges.
 use Rattle.std.proofs.Common.{◌≡◌, ◌≤◌, ◌<◌, ◌^◌, ap, subst, refl, sym, ℕ, Bool, true, false, cond, List, [], ◌∷◌, Option, Some, None, inl, inr, codes, length, arith, ltb-true}
-use Rattle.std.specs.Prelude.{◌&&◌, is_some, nat_lt, option_map, unwrap_or}
+use Rattle.std.specs.Prelude.{◌&&◌, IsSome, is_some, nat_lt, option_map, unwrap_or}
+use Rattle.std.specs.Bool.{then_some}
 use Rattle.std.specs.Str.{bytes_eq}
 use Rattle.std.specs.Str.Parse.{digits_value}
-use Rattle.clap.specs.Words.{Kinds, Row, Rule, Text, fault_of, matches_of}
+use Rattle.clap.specs.Words.{Kinds, first_of, Row, Rule, Text, fault_of, matches_of}
 use Rattle.clap.specs.Kinds.{or_else, range_kinds, value_kinds, values_kinds}
 use Rattle.clap.specs.Values.{refused_kind}
 use Rattle.clap.specs.ValueTests.{accepts}
@@ -14,8 +15,8 @@ use Rattle.clap.specs.declared.builder.ValueParser.{ValueParser}
 use Rattle.clap.specs.declared.builder.ValueParser.TheVariants as vp
 use Rattle.clap.proofs.ValueTestLemmas.{accepts-Accepts}
 use Rattle.program_words.specs.declared.request.Task.{Task}
-use Rattle.program_words.specs.declared.request.Task.TheVariants.{Alone, Run, Trial, Bench}
-use Rattle.program_words.specs.CommandLine.{HasShortNumber, IsInRange, Request, bench_number, command, is_short_numeral, number_at, number_of, option_rule, request_in, request_of, request_with, task_at, task_names, task_of, unless_faulty, value_of}
+use Rattle.program_words.specs.declared.request.Task.TheVariants as Tasks
+use Rattle.program_words.specs.CommandLine.{HasFile, HasShortNumber, IsInRange, Request, bench_number, command, is_short_numeral, number_at, number_of, option_rule, request_in, request_of, request_with, task_at, task_names, task_of, unless_faulty, value_of}
 use Rattle.program_words.proofs.KeptRows.{FirstPasses, IsAlone, IsListed, first_passes, or_first, or_second}
 use Rattle.program_words.proofs.SameReading.{built_shape, rules}
 
@@ -74,15 +75,15 @@ module _ (words : List Text) (none : fault_of command words ≡ []) where
 
   tracks_between : (1 ≤ number_at (codes "tracks") (matches_of command words)) × (number_at (codes "tracks") (matches_of command words) ≤ 32)
   tracks_between = number_between (codes "tracks") 1 32 (codes "4")
-      (λ e. cc, (λ e. cc, (λ e. refl, (λ e. cc, (λ e. cc, (λ e. cc, (λ e. cc, (λ e. cc, (λ e. cc, tt))))))))) (inr (inr (inl refl))) (omega arith, omega arith)
+      (λ e. cc, (λ e. cc, (λ e. refl, (λ e. cc, (λ e. cc, (λ e. cc, (λ e. cc, (λ e. cc, (λ e. cc, (λ e. cc, tt)))))))))) (inr (inr (inl refl))) (omega arith, omega arith)
 
   workers_between : (0 ≤ number_at (codes "workers") (matches_of command words)) × (number_at (codes "workers") (matches_of command words) ≤ 64)
   workers_between = number_between (codes "workers") 0 64 (codes "3")
-      (λ e. cc, (λ e. cc, (λ e. cc, (λ e. refl, (λ e. cc, (λ e. cc, (λ e. cc, (λ e. cc, (λ e. cc, tt))))))))) (inr (inr (inr (inl refl)))) (omega arith, omega arith)
+      (λ e. cc, (λ e. cc, (λ e. cc, (λ e. refl, (λ e. cc, (λ e. cc, (λ e. cc, (λ e. cc, (λ e. cc, (λ e. cc, tt)))))))))) (inr (inr (inr (inl refl)))) (omega arith, omega arith)
 
   budget_between : (1 ≤ number_at (codes "budget") (matches_of command words)) × (number_at (codes "budget") (matches_of command words) ≤ 1099511627776)
   budget_between = number_between (codes "budget") 1 1099511627776 (codes "1099511627776")
-      (λ e. cc, (λ e. cc, (λ e. cc, (λ e. cc, (λ e. refl, (λ e. cc, (λ e. cc, (λ e. cc, (λ e. cc, tt))))))))) (inr (inr (inr (inr (inl refl))))) (omega arith, omega arith)
+      (λ e. cc, (λ e. cc, (λ e. cc, (λ e. cc, (λ e. refl, (λ e. cc, (λ e. cc, (λ e. cc, (λ e. cc, (λ e. cc, tt)))))))))) (inr (inr (inr (inr (inl refl))))) (omega arith, omega arith)
 
 -- ---- the number of a bench
 
@@ -96,27 +97,48 @@ short_number text number e = go (is_short_numeral text) (nat_lt (digits_value 10
     go true false lt e = cc
     go false b lt e = cc
 
-short_task : (name image : Text) (task : Task) → task_of name image ≡ Some task → HasShortNumber task
-short_task name image task e = go (bytes_eq name (codes "bench")) (bytes_eq name (codes "trial")) (bytes_eq name (codes "run")) e
+-- ---- what a task needs
+
+-- a bench has its number, and a task that needs the file of `--with` has it
+abbrev IsSupplied : Option Text → Task → Type 0
+IsSupplied with task = HasShortNumber task × HasFile task with
+
+supplied : (name image : Text) (with : Option Text) (task : Task) → task_of name image (is_some with) ≡ Some task → IsSupplied with task
+supplied name image with task e =
+    go (bytes_eq name (codes "run")) (bytes_eq name (codes "trial")) (bytes_eq name (codes "bench")) (bytes_eq name (codes "check"))
+    (bytes_eq name (codes "at")) (bytes_eq name (codes "list")) (bytes_eq name (codes "pack")) e
   where
-    bench : (o : Option ℕ) → bench_number image ≡ o → option_map Bench o ≡ Some task → HasShortNumber task
+    plain : (t : Task) → IsSupplied with t → Some t ≡ Some task → IsSupplied with task
+    plain t has e =
+        let same : t ≡ task = cc in
+        subst (IsSupplied with) same has
+
+    bench : (o : Option ℕ) → bench_number image ≡ o → option_map Tasks.Bench o ≡ Some task → IsSupplied with task
     bench None is e =
         let bad : None ≡ Some task = e in
         cc
-    bench (Some number) is e =
-        let same : Bench number ≡ task = cc in
-        subst HasShortNumber same (short_number image number is)
+    bench (Some number) is e = plain (Tasks.Bench number) (short_number image number is, tt) e
 
-    plain : (t : Task) → HasShortNumber t → Some t ≡ Some task → HasShortNumber task
-    plain t short e =
+    filed : (o : Option Text) (t : Task) → (IsSome o → IsSupplied o t) → then_some (is_some o) t ≡ Some task → IsSupplied o task
+    filed None t has e =
+        let bad : None ≡ Some task = e in
+        cc
+    filed (Some file) t has e =
         let same : t ≡ task = cc in
-        subst HasShortNumber same short
+        subst (IsSupplied (Some file)) same (has refl)
 
-    go : (a b c : Bool) → cond a (option_map Bench (bench_number image)) (cond b (Some Trial) (cond c (Some Run) (Some Alone))) ≡ Some task → HasShortNumber task
-    go true b c e = bench (bench_number image) refl e
-    go false true c e = plain Trial tt e
-    go false false true e = plain Run tt e
-    go false false false e = plain Alone tt e
+    go : (run trial has_number check at list pack : Bool)
+        → cond run (Some Tasks.Run) (cond trial (Some Tasks.Trial) (cond has_number (option_map Tasks.Bench (bench_number image))
+        (cond check (then_some (is_some with) Tasks.Check) (cond at (then_some (is_some with) Tasks.At)
+        (cond list (Some Tasks.List) (cond pack (Some Tasks.Pack) (Some Tasks.Alone))))))) ≡ Some task → IsSupplied with task
+    go true t b c a l p e = plain Tasks.Run (tt, tt) e
+    go false true b c a l p e = plain Tasks.Trial (tt, tt) e
+    go false false true c a l p e = bench (bench_number image) refl e
+    go false false false true a l p e = filed with Tasks.Check (λ some. (tt, some)) e
+    go false false false false true l p e = filed with Tasks.At (λ some. (tt, some)) e
+    go false false false false false true p e = plain Tasks.List (tt, tt) e
+    go false false false false false false true e = plain Tasks.Pack (tt, tt) e
+    go false false false false false false false e = plain Tasks.Alone (tt, tt) e
 
 -- ---- the request
 
@@ -134,13 +156,15 @@ in_range words request e = go (fault_of command words) refl e
         let tracks = tracks_between words none in
         let workers = workers_between words none in
         let budget = budget_between words none in
+        let has = supplied (value_of (codes "COMMAND") rows) (value_of (codes "IMAGE") rows) (first_of (codes "with") rows) task is in
         subst IsInRange same (record {
           least_tracks = tracks.0;
           most_tracks = tracks.1;
           most_workers = workers.1;
           least_budget = budget.0;
           most_budget = budget.1;
-          task = short_task (value_of (codes "COMMAND") rows) (value_of (codes "IMAGE") rows) task is;
+          task = has.0;
+          file = has.1;
         })
 
     go : (k : Kinds) → fault_of command words ≡ k → unless_faulty k (request_in (matches_of command words)) ≡ Some request → IsInRange request

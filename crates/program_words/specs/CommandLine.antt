@@ -1,5 +1,7 @@
 -- The command line of the program, as a simple command of `clap`, and the request that words make of it
-use Rattle.std.specs.Prelude.{◌≡◌, ◌≤◌, ◌<◌, ◌^◌, ◌⊎◌, ◌&&◌, ℕ, Bool, true, nat_le, nat_lt, List, [], ◌∷◌, length, Option, Some, None, codes, option_map, unwrap_or, if◌then◌else◌}
+use Rattle.std.specs.Prelude.{◌≡◌, ◌≤◌, ◌<◌, ◌^◌, ◌⊎◌, ◌&&◌, ℕ, Bool, true, nat_le, nat_lt, List, [], ◌∷◌, length, Option, Some, None, IsSome, is_some, codes, option_map, unwrap_or, if◌then◌else◌}
+use Rattle.std.specs.Bool.{then_some}
+use Rattle.std.specs.Option.{option_copied}
 use Rattle.std.specs.List.{list_all}
 use Rattle.std.specs.Borrow.{Bor}
 use Rattle.std.specs.Char.{digit_value}
@@ -13,7 +15,7 @@ use Rattle.clap.specs.declared.builder.ValueParser.{ValueParser}
 use Rattle.clap.specs.declared.builder.ValueParser.TheVariants.{Bool as BoolParser, Names, Unsigned}
 use Rattle.program_words.specs.declared.request.Request.{Request as GivenRequest}
 use Rattle.program_words.specs.declared.request.Task.{Task}
-use Rattle.program_words.specs.declared.request.Task.TheVariants.{Alone, Run, Trial, Bench}
+use Rattle.program_words.specs.declared.request.Task.TheVariants as Tasks
 
 -- ---- the command
 
@@ -28,7 +30,8 @@ held text = record { now = text; ref_ptr = (0, 0) }
 -- the commands that there are
 abbrev pub task_names : HeldTexts
 task_names = record {
-  now = held (codes "alone") ∷ (held (codes "run") ∷ (held (codes "trial") ∷ (held (codes "bench") ∷ [])));
+  now = held (codes "alone") ∷ (held (codes "run") ∷ (held (codes "trial") ∷ (held (codes "bench")
+      ∷ (held (codes "check") ∷ (held (codes "at") ∷ (held (codes "list") ∷ (held (codes "pack") ∷ [])))))));
   ref_ptr = (0, 0);
 }
 
@@ -60,6 +63,10 @@ workers_rule = option_rule (codes "workers") (Unsigned 0 64) (codes "3")
 abbrev pub budget_rule : Rule
 budget_rule = option_rule (codes "budget") (Unsigned 1 1099511627776) (codes "1099511627776")
 
+-- `--with` with any text, which has no default
+abbrev pub file_rule : Rule
+file_rule = record (new_rule (codes "with")) { long = Some (codes "with") }
+
 -- a flag of this name
 abbrev pub flag_rule : Text → Rule
 flag_rule name = record (new_rule name) {
@@ -80,13 +87,17 @@ with_places names a = with_rule (with_rule a (command_rule names)) image_rule
 abbrev pub with_numbers : App → App
 with_numbers a = with_rule (with_rule (with_rule a tracks_rule) workers_rule) budget_rule
 
+-- `--with`
+abbrev pub with_file : App → App
+with_file a = with_rule a file_rule
+
 -- `--no-input`, `--report` and `--journal`
 abbrev pub with_flags : App → App
 with_flags a = with_rule (with_rule (with_rule a (flag_rule (codes "no-input"))) (flag_rule (codes "report"))) (flag_rule (codes "journal"))
 
 -- all arguments, with these commands
 abbrev pub command_with : HeldTexts → App
-command_with names = with_flags (with_numbers (with_places names (nameless (new_app (codes "fasttrack")))))
+command_with names = with_flags (with_file (with_numbers (with_places names (nameless (new_app (codes "fasttrack"))))))
 
 -- the command line of the program
 abbrev pub command : App
@@ -94,14 +105,15 @@ command = command_with task_names
 
 -- ---- the request
 
--- What words ask for: a task, the image, how many regions may be open at once, how many workers there are, the budget,
--- whether the input is left unread, and whether the report and the journal are printed
+-- What words ask for: a task, the image, how many regions may be open at once, how many workers there are, the budget, the
+-- further file, whether the input is left unread, and whether the report and the journal are printed
 pub record Request : Type 0 where
   pub task : Task
   pub image : List ℕ
   pub tracks : ℕ
   pub workers : ℕ
   pub budget : ℕ
+  pub with : Option (List ℕ)
   pub no_input : Bool
   pub report : Bool
   pub journal : Bool
@@ -114,6 +126,7 @@ asked r = record {
   tracks = r.tracks;
   workers = r.workers;
   budget = r.budget;
+  with = option_copied r.with;
   no_input = r.no_input;
   report = r.report;
   journal = r.journal;
@@ -142,13 +155,17 @@ is_short_numeral text = nat_lt 0 (length text) && (nat_le (length text) 10 && li
 abbrev pub bench_number : Text → Option ℕ
 bench_number text = if is_short_numeral text && nat_lt (digits_value 10 text) (2 ^ 32) then Some (digits_value 10 text) else None
 
--- the task of a name among those of the commands, and of IMAGE, which says the number of a bench; None for a bench without
--- a number
-abbrev pub task_of : Text → Text → Option Task
-task_of name image =
-    if bytes_eq name (codes "bench") then option_map Bench (bench_number image) else (
-    if bytes_eq name (codes "trial") then Some Trial else (
-    if bytes_eq name (codes "run") then Some Run else Some Alone))
+-- The task of a name among those of the commands, by IMAGE and by whether `--with` is given. None for a bench of which IMAGE
+-- says no number, and for a task that needs the file of `--with` where there is none.
+abbrev pub task_of : Text → Text → Bool → Option Task
+task_of name image has_file =
+    if bytes_eq name (codes "run") then Some Tasks.Run else (
+    if bytes_eq name (codes "trial") then Some Tasks.Trial else (
+    if bytes_eq name (codes "bench") then option_map Tasks.Bench (bench_number image) else (
+    if bytes_eq name (codes "check") then then_some has_file Tasks.Check else (
+    if bytes_eq name (codes "at") then then_some has_file Tasks.At else (
+    if bytes_eq name (codes "list") then Some Tasks.List else (
+    if bytes_eq name (codes "pack") then Some Tasks.Pack else Some Tasks.Alone))))))
 
 abbrev pub request_with : List Row → Task → Request
 request_with rows task = record {
@@ -157,6 +174,7 @@ request_with rows task = record {
   tracks = number_at (codes "tracks") rows;
   workers = number_at (codes "workers") rows;
   budget = number_at (codes "budget") rows;
+  with = first_of (codes "with") rows;
   no_input = flag_at (codes "no-input") rows;
   report = flag_at (codes "report") rows;
   journal = flag_at (codes "journal") rows;
@@ -164,7 +182,7 @@ request_with rows task = record {
 
 -- the task that the matches ask for
 abbrev pub task_at : List Row → Option Task
-task_at rows = task_of (value_of (codes "COMMAND") rows) (value_of (codes "IMAGE") rows)
+task_at rows = task_of (value_of (codes "COMMAND") rows) (value_of (codes "IMAGE") rows) (is_some (first_of (codes "with") rows))
 
 -- the request of the matches, where they have a task
 abbrev pub request_in : List Row → Option Request
@@ -175,19 +193,23 @@ abbrev pub unless_faulty : Kinds → Option Request → Option Request
 unless_faulty [] request = request
 unless_faulty (k ∷ ks) request = None
 
--- The request that the words make, where `clap` takes them and a bench has its number; None where `clap` finds a fault with
--- them, as it also calls what asks for help, and for a bench without a number.
+-- The request that the words make, where `clap` takes them and the task has what it needs; None where `clap` finds a fault
+-- with them, as it also calls what asks for help, for a bench without a number, and for a check or an `at` without a file.
 abbrev pub request_of : List Text → Option Request
 request_of words = unless_faulty (fault_of command words) (request_in (matches_of command words))
 
 -- the number of a bench is below 2^32
 abbrev pub HasShortNumber : Task → Type 0
-HasShortNumber Alone = Unit {0}
-HasShortNumber Run = Unit {0}
-HasShortNumber Trial = Unit {0}
-HasShortNumber (Bench number) = number < 2 ^ 32
+HasShortNumber (Tasks.Bench number) = number < 2 ^ 32
+HasShortNumber _ = Unit {0}
 
--- the numbers of a request are in the ranges of its options
+-- a task that needs the file of `--with` has it
+abbrev pub HasFile : Task → Option Text → Type 0
+HasFile Tasks.Check with = IsSome with
+HasFile Tasks.At with = IsSome with
+HasFile _ with = Unit {0}
+
+-- the numbers of a request are in the ranges of its options, and it has the file that its task needs
 pub record IsInRange (r : Request) : Type 0 where
   pub least_tracks : 1 ≤ r.tracks
   pub most_tracks : r.tracks ≤ 32
@@ -195,6 +217,7 @@ pub record IsInRange (r : Request) : Type 0 where
   pub least_budget : 1 ≤ r.budget
   pub most_budget : r.budget ≤ 2 ^ 40
   pub task : HasShortNumber r.task
+  pub file : HasFile r.task r.with
 
 -- ---- the values
 

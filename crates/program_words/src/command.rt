@@ -2,7 +2,7 @@
 
 ghost use Rattle.std.specs.Prelude.{◌≡◌, IfOk, false};
 ghost use Rattle.clap.specs.Words.{app_of, rule_of};
-ghost use Rattle.program_words.specs.CommandLine.{HeldTexts, budget_rule, command_rule, command_with, flag_rule, image_rule, option_rule, task_names, tracks_rule, workers_rule};
+ghost use Rattle.program_words.specs.CommandLine.{HeldTexts, budget_rule, command_rule, command_with, file_rule, flag_rule, image_rule, option_rule, task_names, tracks_rule, workers_rule};
 ghost use Rattle.clap.specs.Walk.{texts};
 
 use basic_types::MOST_BUDGET;
@@ -11,7 +11,9 @@ use clap::{Arg, ArgAction, Command};
 use std::alloc::{AllocError, Global};
 
 /// The names that COMMAND may have.
-static TASKS: [&str; 4] = ["alone", "run", "trial", "bench"];
+static TASKS: [&str; 8] = [
+    "alone", "run", "trial", "bench", "check", "at", "list", "pack",
+];
 
 fn command_arg<'a>(alloc: Global) -> Arg<'a>
     ensures rule { (names : HeldTexts) × (texts names.now ≡ texts task_names.now) × (rule_of result ≡ command_rule names) }
@@ -71,6 +73,14 @@ fn budget_arg<'a>(alloc: Global) -> Arg<'a>
     option_arg(alloc, "budget", numbers, "1099511627776")
 }
 
+/// The option whose value is any text, the name of a further file.
+fn file_arg<'a>(alloc: Global) -> Arg<'a>
+    ensures rule { rule_of result ≡ file_rule }
+    ensures local { result.global ≡ false }
+{
+    Arg::new(alloc, "with").long("with")
+}
+
 fn flag_arg<'a>(alloc: Global, name: &'a str) -> Arg<'a>
     ensures rule { rule_of result ≡ flag_rule name.now }
     ensures local { result.global ≡ false }
@@ -93,6 +103,7 @@ pub fn command<'a>(alloc: Global) -> Result<Command<'a>, AllocError>
         .arg(tracks_arg(alloc))?
         .arg(workers_arg(alloc))?
         .arg(budget_arg(alloc))?
+        .arg(file_arg(alloc))?
         .arg(flag_arg(alloc, "no-input"))?
         .arg(flag_arg(alloc, "report"))?
         .arg(flag_arg(alloc, "journal"))

@@ -1,7 +1,8 @@
 //! What the words ask for.
 
 ghost use Rattle.std.specs.Prelude.{◌≡◌, Some, None, Err, IfOk, codes, map, string_bytes};
-ghost use Rattle.clap.specs.Words.{found_of, rows_of};
+ghost use Rattle.std.specs.Option.{option_copied};
+ghost use Rattle.clap.specs.Words.{first_of, found_of, rows_of};
 ghost use Rattle.program_words.specs.CommandLine.{HasFlag, HasNumber, HasText, HoldsValues, IsInRange, asked, bench_number, flag_at, number_at, request_in, request_of, task_at, task_of, value_of};
 
 use crate::command::command;
@@ -20,6 +21,14 @@ pub enum Task {
     Trial,
     /// Run the generated program of this number, and report a summary.
     Bench(u32),
+    /// Check a journal, the file of `--with`.
+    Check,
+    /// Show the program alone after the counts of instructions that the file of `--with` names.
+    At,
+    /// List the words of the program's memory as instructions.
+    List,
+    /// Make an image of instructions that are given as text.
+    Pack,
 }
 
 /// What the words ask for.
@@ -27,7 +36,7 @@ pub enum Task {
 pub struct Request<'a> {
     /// COMMAND, with the number that IMAGE says for `bench`
     pub task: Task,
-    /// IMAGE, the path of the image file; for `bench` the digits of its number
+    /// IMAGE, the path of the image file; for `bench` the digits of its number, and for `pack` the path of the text
     pub image: &'a str,
     /// `--tracks`: the most regions that are open at once, from 1 to 32
     pub tracks: u64,
@@ -35,6 +44,8 @@ pub struct Request<'a> {
     pub workers: u64,
     /// `--budget`: the most instructions that the guest runs, from 1 to 2^40
     pub budget: u64,
+    /// `--with`: the path of a further file, which is there where the task needs it
+    pub with: Option<&'a str>,
     /// `--no-input`: the input is left unread
     pub no_input: bool,
     /// `--report`: the ledger is printed behind the guest's output
@@ -46,7 +57,8 @@ pub struct Request<'a> {
 /// Why the words give no request.
 #[derive(Clone, Copy, Debug, PartialEq, Eq)]
 pub enum WordsFault {
-    /// `clap` answers these words with anything but matches, a call for help among them, or a bench has no number.
+    /// `clap` answers these words with anything but matches, a call for help among them; or a bench has no number, or a task
+    /// that needs the file of `--with` doesn't have it.
     Usage,
     /// Memory ran out.
     NoMemory,
@@ -64,12 +76,13 @@ impl From<AllocError> for WordsFault {
 
 /// Reads the words of the program, without its own name.
 ///
-/// The words are those of one simple command of `clap`: COMMAND, IMAGE, `--tracks`, `--workers`, `--budget`, `--no-input`,
-/// `--report` and `--journal`. Behind `bench` IMAGE is a number of 1 to 10 decimal digits below 2^32.
+/// The words are those of one simple command of `clap`: COMMAND, IMAGE, `--tracks`, `--workers`, `--budget`, `--with`,
+/// `--no-input`, `--report` and `--journal`. Behind `bench` IMAGE is a number of 1 to 10 decimal digits below 2^32. `check`
+/// and `at` need `--with`.
 ///
 /// # Errors
-/// `Usage` exactly where `clap` finds a fault with the words or a bench has no such number, `NoMemory` where there was no
-/// room.
+/// `Usage` exactly where `clap` finds a fault with the words, or the task doesn't have what it needs; `NoMemory` where there
+/// was no room.
 pub fn read_words<'a>(alloc: Global, words: &'a [String]) -> Result<Request<'a>, WordsFault>
     ensures usage { result ≡ Err WordsFault.Usage → request_of (map string_bytes words.now) ≡ None }
     ensures ok { IfOk result (λ r. request_of (map string_bytes words.now) ≡ Some (asked r)) }
@@ -85,6 +98,7 @@ pub fn read_words<'a>(alloc: Global, words: &'a [String]) -> Result<Request<'a>,
         tracks: number_in(&matches, "tracks"),
         workers: number_in(&matches, "workers"),
         budget: number_in(&matches, "budget"),
+        with: given_in(&matches, "with"),
         no_input: flag_in(&matches, "no-input"),
         report: flag_in(&matches, "report"),
         journal: flag_in(&matches, "journal"),
@@ -109,17 +123,26 @@ fn task_in(matches: &ArgMatches<'_>) -> Option<Task>
     requires { HasText (found_of matches.now) (codes "COMMAND") × HasText (found_of matches.now) (codes "IMAGE") }
     ensures { result ≡ task_at (rows_of (found_of matches.now)) }
 {
-    task_of(text_in(matches, "COMMAND"), text_in(matches, "IMAGE"))
+    let has_file = given_in(matches, "with").is_some();
+    task_of(
+        text_in(matches, "COMMAND"),
+        text_in(matches, "IMAGE"),
+        has_file,
+    )
 }
 
-// The task of a name among those of the commands, where a bench has its number.
-fn task_of(name: &str, image: &str) -> Option<Task>
-    ensures { result ≡ task_of name.now image.now }
+// The task of a name among those of the commands, where it has what it needs: a bench its number, others their file.
+fn task_of(name: &str, image: &str, has_file: bool) -> Option<Task>
+    ensures { result ≡ task_of name.now image.now has_file }
 {
     match name {
-        "bench" => bench_number(image).map(Task::Bench),
-        "trial" => Some(Task::Trial),
         "run" => Some(Task::Run),
+        "trial" => Some(Task::Trial),
+        "bench" => bench_number(image).map(Task::Bench),
+        "check" => has_file.then_some(Task::Check),
+        "at" => has_file.then_some(Task::At),
+        "list" => Some(Task::List),
+        "pack" => Some(Task::Pack),
         _ => Some(Task::Alone),
     }
 }
@@ -142,6 +165,13 @@ fn text_in<'a>(matches: &ArgMatches<'a>, id: &str) -> &'a str
         Some(text) => text,
         None => unreachable!(),
     }
+}
+
+// The value of an option that may be left out.
+fn given_in<'a>(matches: &ArgMatches<'a>, id: &str) -> Option<&'a str>
+    ensures { option_copied result ≡ first_of id.now (rows_of (found_of matches.now)) }
+{
+    matches.get_str(id)
 }
 
 fn number_in(matches: &ArgMatches<'_>, id: &str) -> u64

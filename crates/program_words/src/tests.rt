@@ -20,6 +20,7 @@ fn plain(task: Task, image: &str) -> Request<'_> {
         tracks: 4,
         workers: 3,
         budget: 1 << 40,
+        with: None,
         no_input: false,
         report: false,
         journal: false,
@@ -95,6 +96,37 @@ fn makes_requests(rt: HostRuntime) -> Result<(), Fail> {
                 ..run
             },
         ),
+        (
+            "check x --with y",
+            Request {
+                with: Some("y"),
+                ..plain(Task::Check, "x")
+            },
+        ),
+        (
+            "--with=y at x",
+            Request {
+                with: Some("y"),
+                ..plain(Task::At, "x")
+            },
+        ),
+        (
+            "check --with= -",
+            Request {
+                with: Some(""),
+                ..plain(Task::Check, "-")
+            },
+        ),
+        ("list x", plain(Task::List, "x")),
+        ("pack with", plain(Task::Pack, "with")),
+        (
+            "run x --with - --report",
+            Request {
+                with: Some("-"),
+                report: true,
+                ..run
+            },
+        ),
     ];
     for (line, wanted) in rows {
         let words = words_of(rt.alloc(), line)?;
@@ -141,6 +173,16 @@ fn refuses_other_words(rt: HostRuntime) -> Result<(), Fail> {
         "bench 5x",
         "bench 01234567890",
         "bench 4294967296",
+        "check x",
+        "at x",
+        "at x y",
+        "check x --with",
+        "check x --with --report",
+        "check x --with y --with y",
+        "list x --with y --with z",
+        "list",
+        "pack",
+        "batch x",
     ];
     for line in rows {
         let words = words_of(rt.alloc(), line)?;

@@ -1,6 +1,6 @@
 use Rattle.std.proofs.Common.{◌+◌, drop, subst}
 use Rattle.std.proofs.lemmas.Result.{err_from_is_err_and}
-use Rattle.fasttrack_program.specs.Reports.{journal_text}
+use Rattle.journal_check.specs.Journals.{journal_text}
 use Rattle.sink_text.proofs.OnTexts.{TextSoFar, TextSoFar-next, TextSoFar-stops}
 use Rattle.fasttrack_program.proofs.OnTexts.{entries_next}
 use Rattle.fasttrack_program.proofs.journal.write_journal.Goals as goal

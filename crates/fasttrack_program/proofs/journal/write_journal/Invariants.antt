@@ -1,5 +1,5 @@
 use Rattle.std.proofs.Common.{drop}
-use Rattle.fasttrack_program.specs.Reports.{journal_text}
+use Rattle.journal_check.specs.Journals.{journal_text}
 use Rattle.sink_text.proofs.OnTexts.{TextSoFar}
 use Rattle.fasttrack_program.proofs.journal.write_journal.Given as goal
 

@@ -1,9 +1,9 @@
-use Rattle.std.proofs.Common.{Some, Ok, Err}
+use Rattle.std.proofs.Common.{Some}
 use Rattle.guest_streams.specs.GuestStreams.{Sinks, sinks_of}
 use Rattle.program_words.specs.CommandLine.{Request, asked}
 use Rattle.fasttrack_program.specs.Reading.{Known, known_of}
 use Rattle.fasttrack_program.specs.Tracks.{given_of}
-use Rattle.fasttrack_program.proofs.OnKeeping.{task-read, task-late}
+use Rattle.fasttrack_program.proofs.OnKeeping.{late-kept}
 use Rattle.fasttrack_program.proofs.OnPlans.{served-guest, served-none}
 use Rattle.fasttrack_program.proofs.serve.serve_with_workers.Goals as goal
 
@@ -21,7 +21,7 @@ returns-in-Ok-clause-reads g c =
     let before : Sinks = sinks_of g.O.Sink g.N.Sink c.args.out.now c.args.notes.now in
     let after : Sinks = sinks_of g.O.Sink g.N.Sink c.do_with_workers.new.out c.do_with_workers.new.notes in
     let given = given_of c.in-Ok.guest.loaded c.in-Ok.guest.input c.options_in-options.result in
-    c.in-Ok.ensures.reads c.do_with_workers.result.answer (task-read r.task given before after c.do_with_workers.result c.do_with_workers.ensures) (task-late r.task given before after c.do_with_workers.result c.do_with_workers.ensures)
+    c.in-Ok.ensures.reads c.do_with_workers.result.answer (late-kept r.task given before after c.do_with_workers.result c.do_with_workers.ensures)
 
 pub returns-in-Err-clause-served : goal.returns-in-Err-clause-served
 returns-in-Err-clause-served g c =

@@ -1,6 +1,5 @@
-use Rattle.std.proofs.Common.{◌≡◌, Option, None, Err, inl, inr, refl, subst}
-use Rattle.guest_streams.specs.GuestStreams.{Sinks, sinks_of}
-use Rattle.fasttrack_program.specs.Reading.{Known, known_of}
+use Rattle.guest_streams.specs.GuestStreams.{sinks_of}
+use Rattle.fasttrack_program.specs.Reading.{known_of}
 use Rattle.fasttrack_program.proofs.OnPlans.{served-refused}
 use Rattle.fasttrack_program.proofs.top.serve_words.Goals as goal
 

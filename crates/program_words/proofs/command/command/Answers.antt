@@ -13,9 +13,10 @@ returns c =
     let tracks = added _ _ _ _ _ c.in_ok-arg-3.ensures c.tracks_arg.ensures.local c.tracks_arg.ensures.rule image in
     let workers = added _ _ _ _ _ c.in_ok-arg-4.ensures c.workers_arg.ensures.local c.workers_arg.ensures.rule tracks in
     let budget = added _ _ _ _ _ c.in_ok-arg-5.ensures c.budget_arg.ensures.local c.budget_arg.ensures.rule workers in
-    let no_input = added _ _ _ _ _ c.in_ok-arg-6.ensures c.flag_arg.ensures.local c.flag_arg.ensures.rule budget in
-    let report = added _ _ _ _ _ c.in_ok-arg-7.ensures c.flag_arg-2.ensures.local c.flag_arg-2.ensures.rule no_input in
-    of_value _ _ c.arg-8.result c.arg-8.ensures (λ new adds. (
+    let file = added _ _ _ _ _ c.in_ok-arg-6.ensures c.file_arg.ensures.local c.file_arg.ensures.rule budget in
+    let no_input = added _ _ _ _ _ c.in_ok-arg-7.ensures c.flag_arg.ensures.local c.flag_arg.ensures.rule file in
+    let report = added _ _ _ _ _ c.in_ok-arg-8.ensures c.flag_arg-2.ensures.local c.flag_arg-2.ensures.rule no_input in
+    of_value _ _ c.arg-9.result c.arg-9.ensures (λ new adds. (
       names.0,
       names.1,
       added _ _ _ _ _ adds c.flag_arg-3.ensures.local c.flag_arg-3.ensures.rule report,

@@ -1,0 +1,25 @@
+use Rattle.std.proofs.Common.{◌≡◌, ℕ, List, Option, Some, Err, inr, refl, sym, ap, ◌∙◌, subst}
+use Rattle.std.specs.Prelude.{IsTrue}
+use Rattle.program_words.specs.CommandLine.{Request, asked}
+use Rattle.fasttrack_program.specs.Plan.{bytes_in, takes_input}
+use Rattle.fasttrack_program.specs.Reading.{Known, known_of, Reads}
+use Rattle.fasttrack_program.proofs.OnPlans.{input-takes, beside-takes}
+use Rattle.fasttrack_program.proofs.OnReading.{reads-beside}
+use Rattle.fasttrack_program.proofs.subject.read_both.Goals as goal
+
+pub returns-in-Err-read_file-clause-found : goal.returns-in-Err-read_file-clause-found
+returns-in-Err-read_file-clause-found g c =
+    let r : Request = asked c.args.request.now in
+    let known : Known = known_of g.F.Files g.I.Source (Some r) c.args.files.now c.args.input.now in
+    let held : g.F.Files.contents c.read_program.new.files c.in-Some.name.now ≡ g.F.Files.contents c.args.files.now c.in-Some.name.now = ap (λ (of : List ℕ → Option (List ℕ)). of c.in-Some.name.now) c.in-Ok.ensures.held in
+    let named : known.beside ≡ g.F.Files.contents c.args.files.now c.in-Some.name.now = rw c.in-Some.is refl in
+    inr (c.in-Ok.guest, c.in-Ok.ensures.found, subst (λ (k : Option (List ℕ)). Reads {A = List ℕ} (bytes_in c.args.limit c.args.too_long) k (Err c.in-Err-read_file.answer)) (held ∙ sym named) c.in-Err-read_file.ensures.reads)
+
+pub returns-in-Err-read_file-clause-reads : goal.returns-in-Err-read_file-clause-reads
+returns-in-Err-read_file-clause-reads g c =
+    let r : Request = asked c.args.request.now in
+    let known : Known = known_of g.F.Files g.I.Source (Some r) c.args.files.now c.args.input.now in
+    let wants : IsTrue (takes_input r.task) = beside-takes r.task c.requires.task in
+    reads-beside g.F.Files g.I.Source r (input-takes r.task wants) c.args.files.now c.read_program.new.files c.read_file.new.files c.args.input.now c.read_program.new.input c.in-Ok.guest c.in-Ok.ensures.reads
+    wants c.requires.task known refl refl c.in-Ok.ensures.found c.args.limit c.args.too_long (g.F.Files.contents c.read_program.new.files c.in-Some.name.now) c.in-Err-read_file.answer c.requires.late
+    c.in-Err-read_file.ensures.counted c.in-Err-read_file.ensures.reads
