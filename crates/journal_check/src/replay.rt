@@ -4,6 +4,7 @@ ghost use Rattle.std.specs.Prelude.{◌≡◌, IfOk, IsTrue};
 ghost use Rattle.speculation.specs.declared.history.Entry.TheVariants as E;
 ghost use Rattle.std.specs.List.{position};
 ghost use Rattle.speculation.specs.Core.{is_named, name_eq};
+ghost use Rattle.track_board.specs.Value.{IsKnown};
 ghost use Rattle.journal_check.specs.Replays.{names_of, same_event, IsTakenOut};
 
 use basic_types::NoMemory;
@@ -131,7 +132,10 @@ impl Replay {
         ensures { IfOk result (FollowsIf self.old self.new entry) }
     {
         match self.board.settle_one()? {
-            Some(done) => Ok(is_same_event(done, entry)),
+            Some(done) => {
+                drop_empty(&mut self.board)?;
+                Ok(is_same_event(done, entry))
+            }
             None => Ok(false),
         }
     }
@@ -160,6 +164,22 @@ impl Replay {
         self.board.halt(seat);
         true
     }
+}
+
+/// Where nothing is verified, drops the parts of the board that hold no verified byte: each later event would go through them
+/// again. The board's value stays.
+///
+/// # Errors
+/// `NoMemory` where there was no room; the value stays then, too.
+fn drop_empty(board: &mut Board) -> Result<(), NoMemory>
+    requires { IsKnown board.old }
+    ensures same { board.new ≡ board.old }
+    ensures known { IsKnown board.new }
+{
+    if board.verified() == 0 {
+        board.release()?;
+    }
+    Ok(())
 }
 
 /// Takes the loan of this name out.
