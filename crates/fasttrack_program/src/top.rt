@@ -47,8 +47,8 @@ use worker_gate::Gate;
 ///   (InputTooLong); whether the file of `--with` can be read (ReadFault), the length of a journal, at most 33,554,432 bytes
 ///   (JournalTooLong), its first bad line (BadJournal), and that of a file of counts (BadCounts). Then the task is done. Of
 ///   the text that is packed, IMAGE names the file: its first bad line and place (BadText) stand behind its read.
-/// - **Reads** (`reads`). Only what the task reads is read, the input behind an image without a fault, the file of `--with`
-///   behind both. A read that fails is counted, and ends the call.
+/// - **Reads** (`reads`). Files and input are left alone where the task reads none of them. The input is read behind an image
+///   without a fault, the file of `--with` behind both. A read that fails is counted, and ends the call.
 /// - **Files** (`held`). What `files` hold is as before.
 pub fn fasttrack_main<
     R: Threads + Wait + Clock + Sync,
