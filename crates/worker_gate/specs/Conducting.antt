@@ -12,6 +12,8 @@ use Rattle.track_board.specs.Settles.{verified_of, IsOutcome}
 use Rattle.track_board.specs.Others.{extended}
 use Rattle.serial_run.specs.declared.conducted.Conducted.{Conducted}
 use Rattle.serial_run.specs.declared.conducted.Conducted.TheVariants.{Done, WriteFault, NoMemory}
+use Rattle.worker_gate.specs.declared.kinds.Led.{Led}
+use Rattle.worker_gate.specs.declared.kinds.Led.TheVariants.{Over}
 use Rattle.worker_gate.specs.declared.releases.Verified.{Verified}
 use Rattle.worker_gate.specs.declared.releases.Closed.{Closed}
 use Rattle.worker_gate.specs.Histories.{SeatsBelow}
@@ -58,6 +60,16 @@ BreaksOff w old new F.NoMemory = GetsAll old new (core_of w).released
 abbrev pub LedIs : {T : Type 0} → Posted → Sinks → Sinks → Result T OutputFault → Type 0
 LedIs w old new (Ok _) = GetsAll old new (core_of w).released
 LedIs w old new (Err fault) = BreaksOff w old new fault
+
+-- sinks that had got what was released before have then got what is released
+abbrev pub LeadsOn : {T : Type 0} → Posted → Posted → Sinks → Sinks → Result T OutputFault → Type 0
+LeadsOn v w old new r = (first : Sinks) → GetsAll first old (core_of v).released → LedIs w first new r
+
+-- behind this answer of a round the board is over
+abbrev pub IsOverBehind : Posted → Result Led OutputFault → Type 0
+IsOverBehind w (Ok Over) = over (core_of w) ≡ true
+IsOverBehind w (Ok _) = Unit {0}
+IsOverBehind w (Err fault) = over (core_of w) ≡ true
 
 -- What the last turn answers and leaves: it handed bytes out, and the sinks got them, or a part of them, or none.
 abbrev pub Concludes : ℕ → Posted → Posted → Sinks → Sinks → Conducted → Type 0

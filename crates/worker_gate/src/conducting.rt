@@ -4,13 +4,13 @@ ghost use Rattle.std.specs.Prelude.{◌≡◌, ◌≤◌, ◌+◌, [], false, Is
 ghost use Rattle.speculation.specs.Core.{over};
 ghost use Rattle.guest_streams.specs.GuestStreams.{sinks_of};
 ghost use Rattle.track_board.specs.Value.{IsKnown, core_of};
-ghost use Rattle.worker_gate.specs.Seats.{seen_of, IsReady};
+ghost use Rattle.worker_gate.specs.Seats.{seen_of, own_loans, IsReady};
 ghost use Rattle.serial_run.specs.Conducting.{Conducts};
 ghost use Rattle.worker_gate.specs.Histories.{HasWorkedHistory};
-ghost use Rattle.worker_gate.specs.Conducting.{LedIs, Concludes};
+ghost use Rattle.worker_gate.specs.Conducting.{LedIs, LeadsOn, IsOverBehind, Concludes};
 
 use crate::gate::Gate;
-use crate::kinds::Round;
+use crate::kinds::{Led, Round};
 use crate::pauses::Pauses;
 use crate::releases::{Closed, finish, halt, release};
 use crate::rounds::round;
@@ -64,8 +64,8 @@ pub fn conduct<R: Threads + Wait + Clock + Sync, O: Sink, N: Sink, G: Gate + Syn
     }
 }
 
-/// Passes for this many workers, or for fewer where there is no room.
-fn passes_for(
+/// Passes for this many workers, with the seats from 1 on, or for fewer where there is no room. They have seen nothing.
+pub fn passes_for(
     alloc: Global,
     lock: &TurnLock<Board>,
     pass: &mut Pass<Board>,
@@ -129,8 +129,7 @@ fn go_together<R: Threads + Wait + Clock + Sync, O: Sink, N: Sink, G: Gate + Syn
     )
 }
 
-/// Goes in rounds until the board is over: what is verified is handed out and written, and then a slice is run. It pauses
-/// after a round that found nothing.
+/// Goes in rounds until the board is over, and pauses after a round that found nothing.
 ///
 /// # Errors
 /// `Write` where a sink failed, and `NoMemory` where there was no room for what is due or for the verified bytes.
@@ -154,26 +153,67 @@ fn lead<R: Wait + Clock, O: Sink, N: Sink, G: Gate>(
 {
     let mut pauses = Pauses::new();
     for _ in rt.forever() {
-        let Ok(verified) = release(rt, lock, pass, gate) else {
-            return Err(OutputFault::NoMemory);
-        };
-        let Ok(()) = write_chunks(&verified.bytes, out, notes) else {
-            halt(rt, lock, pass, gate);
-            return Err(OutputFault::Write);
-        };
-        if verified.over {
-            return Ok(());
-        }
-        match round(rt, lock, pass, gate) {
-            Round::Idle if verified.bytes.is_empty() => pauses.pause(rt),
-            _ => pauses.restart(),
+        match lead_round(rt, lock, pass, out, notes, gate) {
+            Ok(Led::Worked) => pauses.restart(),
+            Ok(Led::Idle) => pauses.pause(rt),
+            Ok(Led::Over) => return Ok(()),
+            Err(fault) => return Err(fault),
         }
     }
     unreachable!()
 }
 
-/// The last turn, when all workers have ended, and what it answers.
-fn conclude<R: Wait + Clock, O: Sink, N: Sink, G: Gate>(
+/// One round of a conductor: what is verified is handed out in a turn and written outside of turns, `out` for stream 1 and
+/// `notes` for stream 2, and then a slice is run.
+///
+/// Sinks that had got all that was released before get all that is released then, up to a fault. `Over` says that the board
+/// is over, and it is so after each error. The seat has no loan behind the round.
+///
+/// # Errors
+/// `Write` where a sink failed, and the count of the next byte's sink rose; the board is then halted. `NoMemory` where there
+/// was no room for what is due or for the verified bytes, and nothing was written.
+pub fn lead_round<R: Wait + Clock, O: Sink, N: Sink, G: Gate>(
+    rt: &R,
+    lock: &TurnLock<Board>,
+    pass: &mut Pass<Board>,
+    out: &mut O,
+    notes: &mut N,
+    gate: &G,
+) -> Result<Led, OutputFault>
+    requires lock { pass.old.lock ≡ lock.now }
+    requires idle { pass.old.in_turn ≡ false }
+    requires seat { pass.old.seat ≡ 0 }
+    requires none { own_loans pass.old.seat pass.old.seen ≡ 0 }
+    ensures pass { pass.new ≡ record pass.old { seen = pass.new.seen } }
+    ensures led { LeadsOn (seen_of pass.old) (seen_of pass.new)
+        (sinks_of O.Sink N.Sink out.old notes.old) (sinks_of O.Sink N.Sink out.new notes.new) result }
+    ensures over { IsOverBehind (seen_of pass.new) result }
+    ensures none { own_loans pass.new.seat pass.new.seen ≡ 0 }
+    ensures known { IsKnown (seen_of pass.new) }
+{
+    let Ok(verified) = release(rt, lock, pass, gate) else {
+        return Err(OutputFault::NoMemory);
+    };
+    let Ok(()) = write_chunks(&verified.bytes, out, notes) else {
+        halt(rt, lock, pass, gate);
+        return Err(OutputFault::Write);
+    };
+    if verified.over {
+        return Ok(Led::Over);
+    }
+    match round(rt, lock, pass, gate) {
+        Round::Idle if verified.bytes.is_empty() => Ok(Led::Idle),
+        _ => Ok(Led::Worked),
+    }
+}
+
+/// The last turn of a conductor, when all workers have ended: what is verified is handed out and written, `out` for stream 1
+/// and `notes` for stream 2, and the outcome is taken. The board is over behind it.
+///
+/// `Done` comes with the outcome of the entries that the pass has then seen, which have a finish, and the sinks got what was
+/// still verified. After `WriteFault` they got a part of that, and the count of the next byte's sink rose. After `NoMemory`
+/// nothing was written, and what was handed out is lost.
+pub fn conclude<R: Wait + Clock, O: Sink, N: Sink, G: Gate>(
     rt: &R,
     lock: &TurnLock<Board>,
     pass: &mut Pass<Board>,

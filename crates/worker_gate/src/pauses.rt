@@ -18,7 +18,7 @@ const LONGEST: u64 = 1_000;
 /// one sleeps, for twice as long as the one before, up to a millisecond. So a thread that finds nothing soon leaves the
 /// processor and the lock to others.
 #[derive(Drop)]
-pub(crate) struct Pauses {
+pub struct Pauses {
     next: Pause,
 }
 
@@ -32,17 +32,18 @@ enum Pause {
 }
 
 impl Pauses {
-    pub(crate) fn new() -> Pauses {
+    /// Before the first pause.
+    pub fn new() -> Pauses {
         Pauses { next: Pause::Yield }
     }
 
     /// Something was found: the next pause is the first again.
-    pub(crate) fn restart(&mut self) {
+    pub fn restart(&mut self) {
         self.next = Pause::Yield;
     }
 
     /// Pauses, longer than before.
-    pub(crate) fn pause<R: Clock>(&mut self, rt: &R) {
+    pub fn pause<R: Clock>(&mut self, rt: &R) {
         self.next = match self.next {
             Pause::Yield => {
                 thread::yield_now();

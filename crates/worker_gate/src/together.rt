@@ -10,10 +10,11 @@ use std::thread;
 use std::thread::Threads;
 
 /// What each of several threads does with a value of its own and one that all share.
-pub(crate) trait Help<L, P>: Sync {
-    // What it asks of the two.
+pub trait Help<L, P>: Sync {
+    /// What it asks of the two.
     ghost ready: { L → P → Type 0 };
 
+    /// Does it, with this gate. It may wait.
     fn help<R: Wait + Clock, G: Gate>(rt: &R, shared: &L, own: &mut P, gate: &G)
         requires { Self.ready shared.now own.old };
 }
@@ -40,7 +41,7 @@ fn all_help<A: Help<L, P>, R: Threads + Wait + Clock + Sync, L: Sync, P: Send, G
 
 /// Runs the lead here, and beside it a helper for each of these values. All have ended when it returns. Where no thread
 /// can be made the helpers come after the lead.
-pub(crate) fn beside<
+pub fn beside<
     A: Help<L, P>,
     R: Threads + Wait + Clock + Sync,
     L: Sync,

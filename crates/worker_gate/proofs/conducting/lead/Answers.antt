@@ -1,7 +1,7 @@
-use Rattle.std.proofs.Common.{ap, ◌∙◌}
+use Rattle.std.proofs.Common.{ap}
 use Rattle.worker_gate.specs.Seats.{seen_of, own_loans}
-use Rattle.worker_gate.proofs.Concluding.{led-first, led-more, led-short, short-same, round-led}
-use Rattle.worker_gate.proofs.Working.{pass-first, pass-then, same-seat}
+use Rattle.worker_gate.proofs.Concluding.{led-first}
+use Rattle.worker_gate.proofs.Working.{pass-first, pass-then}
 use Rattle.worker_gate.proofs.conducting.lead.Goals as goal
 
 pub loop-init : goal.loop-init
@@ -11,22 +11,22 @@ loop-init g c = record {
   led = led-first (seen_of c.args.pass.now) _ c.requires.seen;
 }
 
-pub returns-in_default-write_chunks-clause-led : goal.returns-in_default-write_chunks-clause-led
-returns-in_default-write_chunks-clause-led g c =
-    short-same (seen_of c.release.new.pass) (seen_of c.halt.new.pass) _ _
-    (led-short (seen_of c.loop.pass) (seen_of c.release.new.pass) _ _ _ c.in-Ok.verified.bytes c.loop.invariant.led c.in-Ok.ensures.hands.0 c.in_default-write_chunks.ensures) c.halt.ensures.hands
-
-pub returns-then-verified-clause-led : goal.returns-then-verified-clause-led
-returns-then-verified-clause-led g c =
-    led-more (seen_of c.loop.pass) (seen_of c.release.new.pass) _ _ _ c.in-Ok.verified.bytes c.loop.invariant.led c.in-Ok.ensures.hands.0 c.in-Ok-write_chunks.ensures
+pub loop-preserved-in-Ok-Worked : goal.loop-preserved-in-Ok-Worked
+loop-preserved-in-Ok-Worked g c = record {
+  later = pass-then c.args.pass.now c.loop.pass c.lead_round.new.pass c.loop.invariant.later c.lead_round.ensures.pass;
+  none = c.lead_round.ensures.none;
+  led = c.in-Ok-Worked.ensures.led _ c.loop.invariant.led;
+}
 
 pub loop-preserved : goal.loop-preserved
-loop-preserved g c =
-    let later = pass-then c.args.pass.now c.loop.pass c.release.new.pass c.loop.invariant.later c.release.ensures.pass in
-    record {
-      later = pass-then c.args.pass.now c.release.new.pass c.round.new.pass later c.round.ensures.pass;
-      none = c.round.ensures.none;
-      led =
-          round-led c.release.new.pass c.round.new.pass _ _ c.round.result (same-seat c.args.pass.now c.release.new.pass later ∙ c.requires.seat) c.round.ensures.round c.round.ensures.known
-          (led-more (seen_of c.loop.pass) (seen_of c.release.new.pass) _ _ _ c.in-Ok.verified.bytes c.loop.invariant.led c.in-Ok.ensures.hands.0 c.in-Ok-write_chunks.ensures);
-    }
+loop-preserved g c = record {
+  later = pass-then c.args.pass.now c.loop.pass c.lead_round.new.pass c.loop.invariant.later c.lead_round.ensures.pass;
+  none = c.lead_round.ensures.none;
+  led = c.in-Ok-Idle.ensures.led _ c.loop.invariant.led;
+}
+
+pub returns-in-Ok-Over-clause-led : goal.returns-in-Ok-Over-clause-led
+returns-in-Ok-Over-clause-led g c = c.in-Ok-Over.ensures.led _ c.loop.invariant.led
+
+pub returns-in-Err-clause-led : goal.returns-in-Err-clause-led
+returns-in-Err-clause-led g c = c.in-Err.ensures.led _ c.loop.invariant.led

@@ -1,0 +1,5 @@
+pub mod Lists
+pub mod Places
+pub mod Streams
+pub mod Firsts
+pub mod Sending
