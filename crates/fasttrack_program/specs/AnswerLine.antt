@@ -6,7 +6,7 @@ use Rattle.report_text.specs.Texts.{address_text, trap_text}
 use Rattle.journal_check.specs.FaultTexts.{fault_text as journal_fault_text}
 use Rattle.fasttrack_program.specs.FaultTexts.{fault_text}
 use Rattle.fasttrack_program.specs.declared.answer.Answer.{Answer}
-use Rattle.fasttrack_program.specs.declared.answer.Answer.TheVariants.{Exited, Trapped, Spent, Shown, Usage, ReadFault, ImageTooLong, BadImage, InputTooLong, JournalTooLong, BadJournal, BadCounts, BadText, WriteFault, NoMemory}
+use Rattle.fasttrack_program.specs.declared.answer.Answer.TheVariants.{Exited, Trapped, Spent, Shown, Usage, ReadFault, ImageTooLong, BadImage, InputTooLong, JournalTooLong, BadJournal, BadList, BadCounts, BadText, WriteFault, NoMemory}
 
 -- a line ends with a line feed
 abbrev pub as_line : List ℕ → List ℕ
@@ -25,6 +25,7 @@ line_of (BadImage fault) = Some (as_line (codes "bad image: " ++ fault_text faul
 line_of InputTooLong = Some (as_line (codes "input too long"))
 line_of JournalTooLong = Some (as_line (codes "journal too long"))
 line_of (BadJournal fault) = Some (as_line (codes "bad journal: " ++ journal_fault_text fault))
+line_of BadList = Some (as_line (codes "bad list"))
 line_of (BadCounts line) = Some (as_line (codes "bad counts: line " ++ decimal line))
 line_of (BadText at) = Some (as_line (codes "bad text: line " ++ (decimal at.line ++ (codes " place " ++ decimal at.place))))
 line_of WriteFault = Some (as_line (codes "write failed"))

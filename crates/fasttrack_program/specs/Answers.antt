@@ -8,7 +8,7 @@ use Rattle.guest_streams.specs.declared.fault.OutputFault.TheVariants as F
 use Rattle.journal_check.specs.declared.fault.CheckFault.{CheckFault}
 use Rattle.journal_check.specs.declared.fault.CheckFault.TheVariants as C
 use Rattle.fasttrack_program.specs.declared.answer.Answer.{Answer}
-use Rattle.fasttrack_program.specs.declared.answer.Answer.TheVariants.{Exited, Trapped, Spent, Shown, Usage, ReadFault, ImageTooLong, BadImage, InputTooLong, JournalTooLong, BadJournal, BadCounts, BadText, WriteFault, NoMemory}
+use Rattle.fasttrack_program.specs.declared.answer.Answer.TheVariants.{Exited, Trapped, Spent, Shown, Usage, ReadFault, ImageTooLong, BadImage, InputTooLong, JournalTooLong, BadJournal, BadList, BadCounts, BadText, WriteFault, NoMemory}
 
 -- the end of a guest
 abbrev pub answer_of : End → Answer
@@ -41,5 +41,6 @@ status_of WriteFault = 247
 status_of NoMemory = 248
 status_of JournalTooLong = 249
 status_of (BadJournal fault) = 250
+status_of BadList = 251
 status_of (BadCounts line) = 252
 status_of (BadText at) = 253

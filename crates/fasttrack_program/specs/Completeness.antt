@@ -6,9 +6,12 @@ use Rattle.host_io.specs.Faults.{StayedCalm}
 use Rattle.host_io.specs.declared.files.Files.{Ghosts as FilesRow}
 use Rattle.host_io.specs.declared.source.Source.{Ghosts as SourceRow}
 use Rattle.guest_streams.specs.GuestStreams.{Sinks, Gets}
+use Rattle.job_listing.specs.declared.reports.JobReport.{JobReport}
+use Rattle.job_listing.specs.Listing.{jobs_text}
 use Rattle.program_words.specs.CommandLine.{Request}
 use Rattle.fasttrack_program.specs.AnswerLine.{line_of}
-use Rattle.fasttrack_program.specs.Plan.{Found, Plan, Refused, Does, Shows, plan}
+use Rattle.fasttrack_program.specs.Plan.{Found, Plan, Refused, Does, Shows, Runs, plan}
+use Rattle.fasttrack_program.specs.Jobs.{Batch, AreReports}
 use Rattle.fasttrack_program.specs.Showing.{Showing, Tells}
 use Rattle.fasttrack_program.specs.Promise.{Given, Promise, IsHistory}
 use Rattle.fasttrack_program.specs.Reading.{Known, AgreesWith}
@@ -39,11 +42,19 @@ ShowsAll x old new answer =
     ((text : List ℕ) × Tells x (Ok text) × (answer ≡ Shown) × Gets old new (marked 1 text))
     ⊎ (Tells x (Err answer) × Gets old new (marked 2 (line_text answer)))
 
+-- `out` got the reports of all jobs
+pub record TellsAll (b : Batch) (old new : Sinks) (answer : Answer) : Type 0 where
+  pub reports : List JobReport
+  pub are_reports : AreReports b reports
+  pub answers : answer ≡ Shown
+  pub gets : Gets old new (marked 1 (jobs_text reports))
+
 -- a call that is refused writes the line of its answer
 abbrev pub FollowsPlan : Plan → Sinks → Sinks → Answer → Type 0
 FollowsPlan (Refused refusal) old new answer = (answer ≡ refusal) × Gets old new (marked 2 (line_text answer))
 FollowsPlan (Does p g) old new answer = DoesAll p g old new answer
 FollowsPlan (Shows x) old new answer = ShowsAll x old new answer
+FollowsPlan (Runs b) old new answer = TellsAll b old new answer
 
 -- all of the plan was done, for some file and some input, which are those that are known, where they are known
 pub record IsDone (request : Option Request) (known : Known) (old new : Sinks) (answer : Answer) : Type 0 where

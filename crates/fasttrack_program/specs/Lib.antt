@@ -3,6 +3,7 @@ pub mod Answers
 pub mod Completeness
 pub mod FaultTexts
 pub mod Finding
+pub mod Jobs
 pub mod Plan
 pub mod Promise
 pub mod Reading

@@ -12,7 +12,7 @@ use Rattle.guest_streams.specs.GuestStreams.{end_of}
 use Rattle.worker_gate.specs.Histories.{IsRunHistory}
 use Rattle.program_words.specs.declared.request.Task.{Task}
 use Rattle.program_words.specs.declared.request.Task.TheVariants as Tasks
-use Rattle.program_words.specs.declared.request.Task.TheVariants.{Alone, Run, Trial, Bench, Check, At, Pack}
+use Rattle.program_words.specs.declared.request.Task.TheVariants.{Alone, Run, Trial, Bench, Check, Batch, At, Pack}
 use Rattle.fasttrack_program.specs.Answers.{answer_of}
 use Rattle.journal_check.specs.Journals.{journal_text}
 use Rattle.fasttrack_program.specs.Reports.{program_report, bench_report}
@@ -47,7 +47,7 @@ abbrev pub texts_behind : Given → List Entry → List ℕ
 texts_behind g entries =
     (if g.options.report then program_report g.image g.input g.options.budget else []) ++ (if g.options.journal then journal_text entries else [])
 
--- A task that shows a text has no such promise: its plan says what it shows.
+-- A task that shows a text, or runs a batch, has no such promise: its plan says what it does.
 abbrev pub no_promise : Promise
 no_promise = record {
   has_tracks = false;
@@ -79,6 +79,7 @@ promise_of (Bench number) = record {
   answer = λ g. Shown;
 }
 promise_of Check = no_promise
+promise_of Batch = no_promise
 promise_of At = no_promise
 promise_of Tasks.List = no_promise
 promise_of Pack = no_promise

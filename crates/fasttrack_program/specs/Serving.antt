@@ -1,26 +1,31 @@
 -- How far the plan of a call is kept, up to the line of its answer
-use Rattle.std.specs.Prelude.{◌≡◌, ℕ, if◌then◌else◌, List, Option, Some, None, Result, Ok, Err, ◌⊎◌}
+use Rattle.std.specs.Prelude.{◌≡◌, ℕ, if◌then◌else◌, List, Option, Result, Ok, Err, ◌⊎◌}
 use Rattle.speculation.specs.declared.history.Entry.{Entry}
 use Rattle.speculation.specs.Run.{Mark, marked}
 use Rattle.guest_streams.specs.GuestStreams.{Sinks, GetsAll, GetsPart, StopsShort}
 use Rattle.guest_streams.specs.declared.fault.OutputFault.{OutputFault}
+use Rattle.job_listing.specs.declared.reports.JobReport.{JobReport}
+use Rattle.job_listing.specs.Listing.{jobs_text}
 use Rattle.program_words.specs.CommandLine.{Request}
 use Rattle.fasttrack_program.specs.Answers.{answer_of_fault}
-use Rattle.fasttrack_program.specs.Plan.{Found, Plan, Refused, Does, Shows, plan}
+use Rattle.fasttrack_program.specs.Plan.{Found, Plan, Refused, Does, Shows, Runs, plan}
+use Rattle.fasttrack_program.specs.Jobs.{Batch, AreReports}
 use Rattle.fasttrack_program.specs.Showing.{Showing, Tells}
 use Rattle.fasttrack_program.specs.Promise.{Given, Promise, IsHistory}
 use Rattle.fasttrack_program.specs.Reading.{Known, AgreesWith}
 use Rattle.fasttrack_program.specs.declared.answer.Answer.{Answer}
 use Rattle.fasttrack_program.specs.declared.answer.Answer.TheVariants.{Shown, ReadFault, WriteFault, NoMemory}
 use Rattle.fasttrack_program.specs.declared.served.Served.{Served}
+use Rattle.fasttrack_program.specs.declared.served.Told.{Told}
+use Rattle.fasttrack_program.specs.declared.served.Told.TheVariants.{Nothing, One, Each}
 
 -- an answer without a history
 abbrev pub plainly : Answer → Served
-plainly a = record { answer = a; history = None }
+plainly a = record { answer = a; told = Nothing }
 
 -- the answer of a promise that is kept whole, with its history
 abbrev pub wholly : Promise → Given → List Entry → Served
-wholly p g entries = record { answer = p.answer g; history = if p.has_tracks then Some entries else None }
+wholly p g entries = record { answer = p.answer g; told = if p.has_tracks then One entries else Nothing }
 
 -- How far an output was written: whole, and then the call was served so; or up to a byte that could not be written, since
 -- the sink of that byte failed; or up to some byte, since memory ran out.
@@ -53,11 +58,19 @@ pub record KeepsPromise (p : Promise) (g : Given) (old new : Sinks) (s : Served)
   pub history : IsHistory p.has_tracks g entries
   pub kept : IsKept p g entries old new s
 
+-- How far the text of a batch was shown, whose reports are of its own jobs. Once all of it is shown, the history of each job
+-- that is done is told.
+pub record KeepsBatch (b : Batch) (old new : Sinks) (s : Served) : Type 0 where
+  pub reports : List JobReport
+  pub are_reports : AreReports b reports
+  pub kept : IsWritten (marked 1 (jobs_text reports)) (record { answer = Shown; told = Each reports }) old new s
+
 -- a call that is refused writes nothing
 abbrev pub Keeps : Plan → Sinks → Sinks → Served → Type 0
 Keeps (Refused answer) old new s = (s ≡ plainly answer) × (new ≡ old)
 Keeps (Does p g) old new s = KeepsPromise p g old new s
 Keeps (Shows x) old new s = IsShown x old new s
+Keeps (Runs b) old new s = KeepsBatch b old new s
 
 -- a read failed, or memory ran out before the task was begun: nothing was written
 abbrev pub IsStopped : Sinks → Sinks → Served → Type 0

@@ -1,16 +1,21 @@
 -- What a call of the program answers, what it leaves on `out` and `notes`, and which history it hands out
-use Rattle.std.specs.Prelude.{◌≡◌, Bool, true, false, ◌&&◌, nat_le, IsTrue, if◌then◌else◌, List, [], ◌∷◌, ◌++◌, Option, Some, None, Result, Ok, Err, ◌⊎◌}
+use Rattle.std.specs.Prelude.{◌≡◌, ℕ, Bool, true, false, ◌&&◌, nat_le, IsTrue, if◌then◌else◌, List, [], ◌∷◌, ◌++◌, Option, Some, None, Result, Ok, Err, ◌⊎◌}
 use Rattle.speculation.specs.declared.history.Entry.{Entry}
 use Rattle.guest_streams.specs.GuestStreams.{Sinks}
 use Rattle.program_words.specs.CommandLine.{Request, IsInRange, asked}
 use Rattle.program_words.specs.declared.request.Request.{Request as GivenRequest}
+use Rattle.program_words.specs.declared.request.Task.{Task}
+use Rattle.program_words.specs.declared.request.Task.TheVariants.{Run, Bench, Batch}
 use Rattle.fasttrack_program.specs.AnswerLine.{Concludes}
+use Rattle.fasttrack_program.specs.Jobs.{histories_of_jobs}
 use Rattle.fasttrack_program.specs.Promise.{promise_of}
 use Rattle.fasttrack_program.specs.Reading.{Known}
 use Rattle.fasttrack_program.specs.Serving.{IsServed}
 use Rattle.fasttrack_program.specs.declared.answer.Answer.{Answer}
 use Rattle.fasttrack_program.specs.declared.answer.Answer.TheVariants.{Exited, Trapped, Spent, Shown, Usage, NoMemory}
 use Rattle.fasttrack_program.specs.declared.served.Served.{Served}
+use Rattle.fasttrack_program.specs.declared.served.Told.{Told}
+use Rattle.fasttrack_program.specs.declared.served.Told.TheVariants.{Nothing, One, Each}
 
 -- ---- histories
 
@@ -22,15 +27,27 @@ completes Spent = true
 completes Shown = true
 completes _ = false
 
--- the histories that are told, with one more where there is one and the call's answer still is that of a task that was done
-abbrev pub with_history : List (List Entry) → Option (List Entry) → Answer → List (List Entry)
-with_history told None answer = told
-with_history told (Some entries) answer = if completes answer then told ++ (entries ∷ []) else told
+-- the histories that go with what a call answers: one of a task with tracks, and for a batch one for each job that is done
+abbrev pub histories_in : Told → List (List Entry)
+histories_in Nothing = []
+histories_in (One entries) = entries ∷ []
+histories_in (Each reports) = histories_of_jobs reports
+
+-- the histories that are told, with these behind them where the call's answer still is that of a task that was done
+abbrev pub with_histories : List (List Entry) → Told → Answer → List (List Entry)
+with_histories told more answer = if completes answer then told ++ histories_in more else told
+
+-- the most histories that a task may hand out
+abbrev pub most_histories : Task → ℕ
+most_histories Run = 1
+most_histories (Bench number) = 1
+most_histories Batch = 16
+most_histories _ = 0
 
 -- ---- the call
 
 -- First the plan of the call was kept up to an answer, which left the sinks as in `between`. Then the line of that answer
--- was written on notes; the call's result is that answer, unless the line was lost. Last the history was handed out.
+-- was written on notes; the call's result is that answer, unless the line was lost. Last the histories were handed out.
 pub record IsAnswered (request : Option Request) (known : Known) (old new : Sinks) (told told' : List (List Entry)) (result : Answer) : Type 0 where
   pub served : Served
   pub between : Sinks
@@ -38,7 +55,7 @@ pub record IsAnswered (request : Option Request) (known : Known) (old new : Sink
   pub out : new.out ≡ between.out
   pub out_faults : new.out_faults ≡ between.out_faults
   pub line : Concludes between.notes new.notes between.notes_faults new.notes_faults served.answer result
-  pub history : told' ≡ with_history told served.history result
+  pub histories : told' ≡ with_histories told served.told result
 
 -- ---- the request
 
@@ -49,10 +66,14 @@ IsRequest request (Err answer) = ((answer ≡ Usage) × (request ≡ None)) ⊎ 
 
 -- ---- workers
 
--- the words ask for workers: for a task with tracks, and at least one
+-- the words ask for workers: for a batch, or for a task with tracks, and at least one
+abbrev pub task_needs_workers : Task → ℕ → Bool
+task_needs_workers Batch workers = true
+task_needs_workers task workers = (promise_of task).has_tracks && nat_le 1 workers
+
 abbrev pub needs_workers : Option Request → Bool
 needs_workers None = false
-needs_workers (Some r) = (promise_of r.task).has_tracks && nat_le 1 r.workers
+needs_workers (Some r) = task_needs_workers r.task r.workers
 
 -- No answer exactly where the words ask for workers, unless memory ran out before they were read. `untouched` says that
 -- nothing was read, written or told.

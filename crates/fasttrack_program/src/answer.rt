@@ -22,7 +22,7 @@ pub enum Answer {
     Shown,
     /// The words are no call of the program.
     Usage,
-    /// The image file, the input, or the file of `--with` could not be read.
+    /// The file that IMAGE names, the input, the file of `--with`, or one that a list names could not be read.
     ReadFault,
     /// The image file has more than 33,554,432 bytes.
     ImageTooLong,
@@ -34,6 +34,8 @@ pub enum Answer {
     JournalTooLong,
     /// The journal is that of no legal history with a finish.
     BadJournal(JournalFault),
+    /// The list of a batch is not of the form of one.
+    BadList,
     /// The file of counts is refused at this line.
     BadCounts(u64),
     /// The text of words is refused at this line and place.
@@ -62,6 +64,7 @@ pub fn status(answer: &Answer) -> u8
         Answer::NoMemory => 248,
         Answer::JournalTooLong => 249,
         Answer::BadJournal(_) => 250,
+        Answer::BadList => 251,
         Answer::BadCounts(_) => 252,
         Answer::BadText(_) => 253,
     }

@@ -42,6 +42,7 @@ pub fn conclude<N: Sink>(alloc: Global, answer: Answer, notes: &mut N) -> Answer
             Err(NoMemory) => write_no_memory(notes),
         },
         Answer::JournalTooLong => write_line(notes, answer, "fasttrack: journal too long\n"),
+        Answer::BadList => write_line(notes, answer, "fasttrack: bad list\n"),
         Answer::Spent => write_line(notes, answer, "fasttrack: budget spent\n"),
         Answer::Usage => write_line(notes, answer, "fasttrack: bad words\n"),
         Answer::ReadFault => write_line(notes, answer, "fasttrack: read failed\n"),

@@ -1,12 +1,12 @@
 //! The guest on which a task is done.
 
-ghost use Rattle.std.specs.Prelude.{◌≡◌, false, not, Ok, Some, IfOk, IsTrue};
+ghost use Rattle.std.specs.Prelude.{◌≡◌, not, Ok, Some, IfOk, IsTrue};
 ghost use Rattle.guest_model.specs.Image.{image};
 ghost use Rattle.elf32_loader.specs.LoadedImage.{image_of_loaded};
 ghost use Rattle.program_words.specs.CommandLine.{asked};
 ghost use Rattle.rv32_asm.specs.Generated.{generated};
 ghost use Rattle.fasttrack_program.specs.Finding.{FindsGuest, FindsProgram, ReadsFor};
-ghost use Rattle.fasttrack_program.specs.Plan.{bench_regions, shows, takes_input};
+ghost use Rattle.fasttrack_program.specs.Plan.{bench_regions, runs_guest, takes_program};
 ghost use Rattle.fasttrack_program.specs.Reading.{known_of};
 
 use crate::answer::Answer;
@@ -42,7 +42,7 @@ pub fn find_guest<F: Files, I: Source>(
     files: &mut F,
     input: &mut I,
 ) -> Result<LoadedGuest, Answer>
-    requires { shows request.now.task ≡ false }
+    requires { IsTrue (runs_guest request.now.task) }
     ensures found { let r = asked request.now in FindsGuest r (known_of F.Files I.Source (Some r) files.old input.old) result }
     ensures reads { ReadsFor F.Files I.Source (asked request.now) files.old files.new input.old input.new result }
     ensures held { F.contents files.new ≡ F.contents files.old }
@@ -70,7 +70,7 @@ pub fn read_program<F: Files, I: Source>(
     files: &mut F,
     input: &mut I,
 ) -> Result<LoadedGuest, Answer>
-    requires { IsTrue (takes_input request.now.task) }
+    requires { IsTrue (takes_program request.now.task) }
     ensures found { let r = asked request.now in FindsProgram (not r.no_input) (known_of F.Files I.Source (Some r) files.old input.old) result }
     ensures reads { ReadsFor F.Files I.Source (asked request.now) files.old files.new input.old input.new result }
     ensures held { F.contents files.new ≡ F.contents files.old }

@@ -1,12 +1,16 @@
 //! The histories that calls of the program hand out.
 
-ghost use Rattle.std.specs.Prelude.{◌≡◌, ◌<◌, IsSome, IsTrue, OnOk, vec_len, vec_capacity};
+ghost use Rattle.std.specs.Prelude.{◌≡◌, ◌≤◌, ◌+◌, ◌++◌, OnOk, length, vec_len, vec_capacity};
+ghost use Rattle.fasttrack_program.specs.Jobs.{histories_of_jobs, history_in};
 ghost use Rattle.fasttrack_program.specs.Promise.{promise_of};
-ghost use Rattle.fasttrack_program.specs.TopCall.{with_history};
+ghost use Rattle.fasttrack_program.specs.TopCall.{histories_in, most_histories, with_histories};
 
 use crate::answer::Answer;
+use crate::served::Told;
 use board_events::Entries;
 use guest_model::NoMemory;
+use job_batch::{JobEnd, JobOutcome};
+use job_listing::JobReport;
 use program_words::Task;
 use std::alloc::Global;
 use std::marker::Model;
@@ -56,32 +60,74 @@ pub fn has_tracks(task: Task) -> bool
     }
 }
 
-/// Makes room for the history of a task that has one, so that handing it out takes no memory.
+/// The most histories that a task may hand out.
+fn most_histories(task: Task) -> usize
+    ensures { result ≡ most_histories task }
+{
+    match task {
+        Task::Run | Task::Bench(_) => 1,
+        Task::Batch => 16,
+        _ => 0,
+    }
+}
+
+/// Makes room for the histories of a task, so that handing them out takes no memory.
 ///
 /// # Errors
 /// `NoMemory` where there is no room.
 pub fn make_room(histories: &mut Vec<Entries>, task: Task) -> Result<(), NoMemory>
     ensures items { histories.new.items ≡ histories.old.items }
-    ensures room { OnOk result (IsTrue (promise_of task).has_tracks → vec_len histories.new < vec_capacity histories.new) }
+    ensures room { OnOk result (vec_len histories.new + most_histories task ≤ vec_capacity histories.new) }
 {
-    if !has_tracks(task) {
-        return Ok(());
-    }
-    Ok(histories.reserve(1)?)
+    Ok(histories.reserve(most_histories(task))?)
 }
 
-/// Adds a history, if there is one and the call's answer still is that of a task that was done. It takes no memory.
-pub fn hand_out(histories: &mut Vec<Entries>, history: Option<Entries>, answer: Answer)
-    requires room { IsSome history → vec_len histories.old < vec_capacity histories.old }
-    ensures { histories.new.items ≡ with_history histories.old.items history answer }
+/// Adds the histories that go with an answer, if the call's answer still is that of a task that was done. It takes no memory.
+pub fn hand_out(histories: &mut Vec<Entries>, told: Told, answer: Answer)
+    requires room { vec_len histories.old + length (histories_in told) ≤ vec_capacity histories.old }
+    ensures { histories.new.items ≡ with_histories histories.old.items told answer }
 {
-    let Some(entries) = history else {
-        return;
-    };
     match answer {
         Answer::Exited(_) | Answer::Trapped(..) | Answer::Spent | Answer::Shown => {
-            histories.push_reserved(entries);
+            add_told(histories, told);
         }
         _ => {}
+    }
+}
+
+/// Adds these histories, for which there is room.
+fn add_told(histories: &mut Vec<Entries>, told: Told)
+    requires room { vec_len histories.old + length (histories_in told) ≤ vec_capacity histories.old }
+    ensures { histories.new.items ≡ histories.old.items ++ histories_in told }
+{
+    match told {
+        Told::Nothing => {}
+        Told::One(entries) => histories.push_reserved(entries),
+        Told::Each(reports) => add_done(histories, reports),
+    }
+}
+
+/// Adds the history of each job that is done, for which there is room.
+fn add_done(histories: &mut Vec<Entries>, reports: Vec<JobReport>)
+    requires room { vec_len histories.old + length (histories_of_jobs reports.items) ≤ vec_capacity histories.old }
+    ensures { histories.new.items ≡ histories.old.items ++ histories_of_jobs reports.items }
+{
+    for report in reports {
+        if let Some(entries) = history_of(report) {
+            histories.push_reserved(entries);
+        }
+    }
+}
+
+/// The history of a job that is done.
+fn history_of(report: JobReport) -> Option<Entries>
+    ensures { result ≡ history_in report }
+{
+    match report {
+        JobReport::Ran(JobEnd {
+            outcome: JobOutcome::Done(outcome),
+            ..
+        }) => Some(outcome.entries),
+        _ => None,
     }
 }

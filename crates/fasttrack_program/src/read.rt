@@ -1,8 +1,9 @@
 //! Reading an image, the input, and other files.
 
-ghost use Rattle.std.specs.Prelude.{◌≡◌, false, IsOk};
+ghost use Rattle.std.specs.Prelude.{◌≡◌, ◌≢◌, false, IsOk};
 ghost use Rattle.fasttrack_program.specs.Plan.{bytes_in, image_in, input_in};
-ghost use Rattle.fasttrack_program.specs.Reading.{CountsReadFault, IsLate, Reads, loaded_image};
+ghost use Rattle.fasttrack_program.specs.declared.answer.Answer.TheVariants.{ReadFault};
+ghost use Rattle.fasttrack_program.specs.Reading.{CountsReadFault, Reads, loaded_image};
 
 use crate::answer::Answer;
 use basic_types::MOST_INPUT;
@@ -66,7 +67,7 @@ pub fn read_file<F: Files>(
     limit: u64,
     too_long: Answer,
 ) -> Result<Bytes, Answer>
-    requires { IsLate too_long }
+    requires { too_long ≢ ReadFault }
     ensures reads { Reads (bytes_in limit too_long) (F.contents files.old name.now) result }
     ensures counted { CountsReadFault (F.faults files.old) (F.faults files.new) result }
     ensures held { F.contents files.new ≡ F.contents files.old }

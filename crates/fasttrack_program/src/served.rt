@@ -5,14 +5,26 @@ ghost use Rattle.fasttrack_program.specs.Serving.{plainly};
 
 use crate::answer::Answer;
 use board_events::Entries;
+use job_listing::JobReport;
 
-/// An answer, and the history that is handed out once its line was written.
+/// The histories that are handed out once the answer's line was written.
+#[derive(Debug, Drop)]
+pub enum Told {
+    /// None.
+    Nothing,
+    /// That of a run with tracks that completed.
+    One(Entries),
+    /// Those of the jobs of a batch that are done.
+    Each(Vec<JobReport>),
+}
+
+/// An answer, and the histories that go with it.
 #[derive(Debug, Drop)]
 pub struct Served {
     /// How the call ends, unless its line can't be written.
     pub answer: Answer,
-    /// The history of a run with tracks that completed.
-    pub history: Option<Entries>,
+    /// What is handed out then.
+    pub told: Told,
 }
 
 /// An answer without a history.
@@ -21,6 +33,6 @@ pub fn plain(answer: Answer) -> Served
 {
     Served {
         answer,
-        history: None,
+        told: Told::Nothing,
     }
 }

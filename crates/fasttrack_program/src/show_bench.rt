@@ -18,7 +18,7 @@ use crate::answer::{Answer, answer_of_fault};
 use crate::boards::run_counted;
 use crate::guest::LoadedGuest;
 use crate::options::Options;
-use crate::served::{Served, plain};
+use crate::served::{Served, Told, plain};
 use crate::workers::run_counted_with_workers;
 use guest_streams::OutputFault;
 use host_io::Sink;
@@ -109,7 +109,7 @@ fn end_bench<O: Sink>(
     ) {
         Ok(()) => Served {
             answer: Answer::Shown,
-            history: Some(entries),
+            told: Told::One(entries),
         },
         Err(fault) => plain(answer_of_fault(fault)),
     }

@@ -19,7 +19,7 @@ use crate::guest::LoadedGuest;
 use crate::journal::write_journal;
 use crate::options::Options;
 use crate::report::write_report;
-use crate::served::{Served, plain};
+use crate::served::{Served, Told, plain};
 use crate::workers::run_with_workers;
 use guest_streams::OutputFault;
 use host_io::Sink;
@@ -103,7 +103,7 @@ fn end_run<N: Sink>(alloc: Global, options: &Options, conducted: Conducted, note
     ) {
         Ok(()) => Served {
             answer: answer_of(finished.end),
-            history: Some(entries),
+            told: Told::One(entries),
         },
         Err(fault) => plain(answer_of_fault(fault)),
     }

@@ -23,6 +23,8 @@ pub enum Task {
     Bench(u32),
     /// Check a journal, the file of `--with`.
     Check,
+    /// Run the programs of the images that a list names side by side.
+    Batch,
     /// Show the program alone after the counts of instructions that the file of `--with` names.
     At,
     /// List the words of the program's memory as instructions.
@@ -36,7 +38,8 @@ pub enum Task {
 pub struct Request<'a> {
     /// COMMAND, with the number that IMAGE says for `bench`
     pub task: Task,
-    /// IMAGE, the path of the image file; for `bench` the digits of its number, and for `pack` the path of the text
+    /// IMAGE, the path of the image file; for `bench` the digits of its number, for `batch` the path of the
+    /// list, and for `pack` that of the text
     pub image: &'a str,
     /// `--tracks`: the most regions that are open at once, from 1 to 32
     pub tracks: u64,
@@ -140,6 +143,7 @@ fn task_of(name: &str, image: &str, has_file: bool) -> Option<Task>
         "trial" => Some(Task::Trial),
         "bench" => bench_number(image).map(Task::Bench),
         "check" => has_file.then_some(Task::Check),
+        "batch" => Some(Task::Batch),
         "at" => has_file.then_some(Task::At),
         "list" => Some(Task::List),
         "pack" => Some(Task::Pack),

@@ -117,6 +117,7 @@ fn makes_requests(rt: HostRuntime) -> Result<(), Fail> {
                 ..plain(Task::Check, "-")
             },
         ),
+        ("batch x", plain(Task::Batch, "x")),
         ("list x", plain(Task::List, "x")),
         ("pack with", plain(Task::Pack, "with")),
         (
