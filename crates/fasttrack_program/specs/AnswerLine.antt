@@ -3,8 +3,8 @@ use Rattle.std.specs.Prelude.{◌≡◌, ℕ, ◌<◌, List, [], ◌∷◌, ◌+
 use Rattle.std.specs.Io.KnownBytes.{Appends}
 use Rattle.host_io.specs.Faults.{Rose}
 use Rattle.report_text.specs.Texts.{address_text, trap_text}
+use Rattle.fault_text.specs.FaultTexts.{fault_text}
 use Rattle.journal_check.specs.FaultTexts.{fault_text as journal_fault_text}
-use Rattle.fasttrack_program.specs.FaultTexts.{fault_text}
 use Rattle.fasttrack_program.specs.declared.answer.Answer.{Answer}
 use Rattle.fasttrack_program.specs.declared.answer.Answer.TheVariants.{Exited, Trapped, Spent, Shown, Usage, ReadFault, ImageTooLong, BadImage, InputTooLong, JournalTooLong, BadJournal, BadList, BadCounts, BadText, WriteFault, NoMemory}
 

@@ -1,7 +1,6 @@
 pub mod AnswerLine
 pub mod Answers
 pub mod Completeness
-pub mod FaultTexts
 pub mod Finding
 pub mod Jobs
 pub mod Plan

@@ -4,8 +4,8 @@ ghost use Rattle.std.specs.Prelude.{◌≡◌, ◌≤◌, IfOk, Some, codes, str
 ghost use Rattle.fasttrack_program.specs.AnswerLine.{as_line, line_of, WritesLine, Concludes};
 
 use crate::answer::Answer;
-use crate::fault_text::FaultText;
 use elf32_loader::ImageFault;
+use fault_text::FaultText;
 use guest_model::{NoMemory, Trap};
 use host_io::{Failed, Sink, write_whole};
 use journal_check::JournalFault;

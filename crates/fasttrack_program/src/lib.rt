@@ -5,7 +5,6 @@ mod alone;
 mod answer;
 mod answer_line;
 mod boards;
-mod fault_text;
 mod guest;
 mod histories;
 mod journal;

@@ -3,7 +3,7 @@
 
 mod texts;
 
-pub use texts::{write_made, write_text};
+pub use texts::{write_bytes, write_made, write_text};
 
 #[cfg(test)]
 mod tests;

@@ -7,6 +7,19 @@ use guest_model::NoMemory;
 use guest_streams::OutputFault;
 use host_io::{Failed, Sink, write_whole};
 
+/// Writes bytes whole.
+///
+/// # Errors
+/// `Write` where the sink failed. It has a beginning of the bytes then.
+pub fn write_bytes<O: Sink>(bytes: &[u8], out: &mut O) -> Result<(), OutputFault>
+    ensures { WritesOn O.Sink out.old out.new bytes.now result }
+{
+    match write_whole(out, bytes) {
+        Ok(()) => Ok(()),
+        Err(Failed) => Err(OutputFault::Write),
+    }
+}
+
 /// Writes a text whole.
 ///
 /// # Errors
@@ -14,10 +27,7 @@ use host_io::{Failed, Sink, write_whole};
 pub fn write_text<O: Sink>(text: &str, out: &mut O) -> Result<(), OutputFault>
     ensures { WritesOn O.Sink out.old out.new text.now result }
 {
-    match write_whole(out, text.as_bytes()) {
-        Ok(()) => Ok(()),
-        Err(Failed) => Err(OutputFault::Write),
-    }
+    write_bytes(text.as_bytes(), out)
 }
 
 /// Writes a text whole, if there was room for it.

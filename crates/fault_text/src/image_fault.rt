@@ -1,4 +1,4 @@
-//! Faults of an image as text.
+//! The fault of an image as text.
 
 use elf32_loader::ImageFault;
 use std::fmt;
@@ -9,7 +9,7 @@ pub struct FaultText(pub ImageFault);
 
 impl fmt::Display for FaultText {
     ghost use Rattle.std.specs.Prelude.{Some};
-    ghost use Rattle.fasttrack_program.specs.FaultTexts.{fault_text};
+    ghost use Rattle.fault_text.specs.FaultTexts.{fault_text};
 
     ghost output = { λ t. Some (fault_text t.0) };
 

@@ -1,0 +1,72 @@
+//! The file names of a list.
+
+ghost use Rattle.std.specs.Prelude.{◌≡◌};
+ghost use Rattle.job_listing.specs.Lists.{names_in, ReadsList};
+
+use basic_types::NoMemory;
+use memchr::memchr;
+use std::alloc::Global;
+use std::str;
+
+/// The most bytes of a list.
+pub const MOST_BYTES: usize = 4_096;
+
+/// The most names of a list.
+pub const MOST_NAMES: usize = 16;
+
+/// The most bytes of a name.
+pub const MOST_NAME: usize = 255;
+
+/// Why a list names no jobs.
+#[derive(Debug, Clone, Copy, PartialEq, Eq)]
+pub enum ListFault {
+    /// It is not of the form.
+    Form,
+    /// The host's memory ran out.
+    NoMemory,
+}
+
+/// The file names of a list: 1 to 16 lines, each ending with a line feed, each a name of 1 to 255 bytes in UTF-8; at most
+/// 4,096 bytes in all.
+///
+/// # Errors
+/// `Form` exactly where the list is not so, and `NoMemory` where there is no room for the names.
+pub fn read_list(alloc: Global, list: &[u8]) -> Result<Vec<String>, ListFault>
+    ensures { ReadsList (names_in list.now) result }
+{
+    if list.len() > MOST_BYTES {
+        return Err(ListFault::Form);
+    }
+    let mut names = Vec::new(alloc);
+    let mut rest = list;
+    while !rest.is_empty() {
+        if names.len() == MOST_NAMES {
+            return Err(ListFault::Form);
+        }
+        let Some((name, behind)) = first_name(rest) else {
+            return Err(ListFault::Form);
+        };
+        names.push(String::from_str(alloc, name)?)?;
+        rest = behind;
+    }
+    if names.is_empty() {
+        return Err(ListFault::Form);
+    }
+    Ok(names)
+}
+
+/// The first line, if it is a name, and what stands behind its line feed.
+fn first_name(list: &[u8]) -> Option<(&str, &[u8])>
+    ensures name { IfSome result (λ cut. BeginsWithName list.now cut.0.now cut.1.now) }
+    ensures none { IfNone result (HasNoName list.now) }
+{
+    let end = memchr(b'\n', list)?;
+    let line = &list[..end];
+    if line.is_empty() || line.len() > MOST_NAME {
+        return None;
+    }
+    match str::from_utf8(line) {
+        Ok(name) => Some((name, &list[end + 1..])),
+        Err(_) => None,
+    }
+}
