@@ -2,6 +2,7 @@ pub mod OnBenches
 pub mod OnCompleteness
 pub mod OnHistories
 pub mod OnImages
+pub mod OnJobs
 pub mod OnKeeping
 pub mod OnLines
 pub mod OnPlans

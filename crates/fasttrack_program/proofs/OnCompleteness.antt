@@ -1,6 +1,7 @@
 -- Where no count rose, a call did all that its plan says
-use Rattle.std.proofs.Common.{◌≡◌, ◌≢◌, ℕ, ◌≤◌, Bool, true, false, List, [], ◌++◌, length, Ok, Err, Option, Some, None, ◌⊎◌, inl, inr, refl, sym, ap, ◌∙◌, subst, append-nil, arith}
+use Rattle.std.proofs.Common.{◌≡◌, ◌≢◌, ℕ, ◌≤◌, Bool, true, false, List, [], ◌∷◌, ◌++◌, length, Ok, Err, Option, Some, None, ◌⊎◌, inl, inr, refl, sym, ap, ◌∙◌, subst, append-nil, arith}
 use Rattle.std.specs.Prelude.{unwrap_or, not, IsTrue, if◌then◌else◌}
+use Rattle.std.specs.List.{AllZip}
 use Rattle.std.specs.Io.KnownBytes.{Appends}
 use Rattle.std.proofs.KnownBytes.{Appends-nil}
 use Rattle.speculation.specs.declared.history.Entry.{Entry}
@@ -13,17 +14,21 @@ use Rattle.guest_streams.specs.GuestStreams.{Sinks, Gets, GetsAll, FailsAt}
 use Rattle.guest_streams.proofs.OnStreams.{GetsAll-nothing}
 use Rattle.program_words.specs.CommandLine.{Request}
 use Rattle.program_words.specs.declared.request.Task.TheVariants as Tasks
-use Rattle.program_words.specs.declared.request.Task.TheVariants.{Bench, Check, At, Pack}
+use Rattle.program_words.specs.declared.request.Task.TheVariants.{Bench, Check, Batch as BatchTask, At, Pack}
 use Rattle.fasttrack_program.specs.declared.served.Served.{Served}
+use Rattle.fasttrack_program.specs.declared.served.Told.TheVariants.{Each}
 use Rattle.fasttrack_program.specs.declared.answer.Answer.{Answer}
 use Rattle.fasttrack_program.specs.declared.answer.Answer.TheVariants.{Shown, ReadFault, JournalTooLong, NoMemory}
 use Rattle.fasttrack_program.specs.AnswerLine.{line_of, without_line, IsSaidFor, WritesLineOf, Concludes}
-use Rattle.fasttrack_program.specs.Completeness.{line_text, DoesAll, ShowsAll, FollowsPlan, IsComplete}
-use Rattle.fasttrack_program.specs.Plan.{Found, Plan, Refused, Does, Shows, runs_file, image_in, image_limit, input_in, input_limit, journal_in, journal_limit, after, guest_plan, journal_plan, options_of, plan}
+use Rattle.fasttrack_program.specs.Completeness.{line_text, DoesAll, ShowsAll, FollowsPlan, TellsAll, IsComplete}
+use Rattle.fasttrack_program.specs.Plan.{Found, Plan, Refused, Does, Shows, Runs, batch_of, list_in, unless_none, runs_file, image_in, image_limit, input_in, input_limit, journal_in, journal_limit, after, guest_plan, journal_plan, options_of, plan}
+use Rattle.job_listing.specs.Listing.{jobs_text}
+use Rattle.job_listing.specs.Lists.{names_in}
+use Rattle.fasttrack_program.specs.Jobs.{Batch}
 use Rattle.fasttrack_program.specs.Promise.{Given, Promise, promise_of, settings_of, IsHistory}
-use Rattle.fasttrack_program.specs.Reading.{Agrees, Known, AgreesWith, FileFails, InputFails, BesideFails}
+use Rattle.fasttrack_program.specs.Reading.{Agrees, Known, AgreesWith, FileFails, InputFails, MoreFails}
 use Rattle.fasttrack_program.specs.Showing.{Showing, OfJournal, OfStates, OfWords, OfText, Tells}
-use Rattle.fasttrack_program.specs.Serving.{plainly, wholly, IsWritten as IsKept, IsShown, Keeps, IsStopped, IsServed}
+use Rattle.fasttrack_program.specs.Serving.{plainly, wholly, IsWritten as IsKept, IsShown, Keeps, KeepsBatch, IsStopped, IsServed}
 use Rattle.fasttrack_program.proofs.OnPlans.{plan-by, file-plan, with-both, within-limit, whole_file, given_input, bench-runs}
 use Rattle.fasttrack_program.proofs.OnRuns.{noted, behind_all}
 
@@ -158,10 +163,28 @@ module _ (old mid new : Sinks) (result : Answer) (out : new.out ≡ mid.out) (ou
     followed-shown x (inr (inl h)) = refused-text x h.0 h.1 (followed-refusal h.0 h.3 (line-of (plainly h.0) h.2))
     followed-shown x (inr (inr h)) = inl (no-memory h.0)
 
+    -- the reports of all jobs were shown
+    followed-batch : (b : Batch) → KeepsBatch b old mid v → (result ≡ NoMemory) ⊎ TellsAll b old new result
+    followed-batch b k = by k.kept
+      where
+        by : IsKept (marked 1 (jobs_text k.reports)) (record { answer = Shown; told = Each k.reports }) old mid v → (result ≡ NoMemory) ⊎ TellsAll b old new result
+        by (inl h) =
+            or-else (λ w. record {
+              reports = k.reports;
+              are_reports = k.are_reports;
+              answers = w.same;
+              gets = subst (Gets old new) (append-nil (marked 1 (jobs_text k.reports)))
+                  (subst (λ a. Gets old new (marked 1 (jobs_text k.reports) ++ marked 2 (line_text a))) w.same (with-line (marked 1 (jobs_text k.reports)) Shown h.1 w));
+            })
+            (concluded-whole old.notes_faults mid.notes new.notes mid.notes_faults new.notes_faults Shown result notes_calm h.1.calm.on_notes (line-of (record { answer = Shown; told = Each k.reports }) h.0))
+        by (inr (inl h)) = absurd (not-failed v.answer h.1.rest line h.1.fails)
+        by (inr (inr h)) = inl (no-memory h.0)
+
     followed-plan : (q : Plan) → Keeps q old mid v → (result ≡ NoMemory) ⊎ FollowsPlan q old new result
     followed-plan (Refused a) k = followed-refusal a k.1 (line-of (plainly a) k.0)
     followed-plan (Does p g) k = followed-promise p g k.entries k.history k.kept
     followed-plan (Shows x) k = followed-shown x k
+    followed-plan (Runs b) k = followed-batch b k
 
     followed : (q : Plan) → result ≢ ReadFault → IsStopped old mid v ⊎ Keeps q old mid v → (result ≡ NoMemory) ⊎ FollowsPlan q old new result
     followed q read (inl h) = inl (stopped read h)
@@ -177,7 +200,7 @@ completed request known old mid new v result h out out_faults line out_calm note
 
 -- a read that failed was counted
 pub read-failed : {F I : Type 0} (f : FilesRow F) (i : SourceRow I) (request : Option Request) (files files' : F) (input input' : I)
-    → StayedCalm (f.faults files) (f.faults files') → StayedCalm (i.faults input) (i.faults input') → FileFails f i request files files' input input' ⊎ (InputFails f i request files files' input input' ⊎ BesideFails f i request files files' input input') → ⊥
+    → StayedCalm (f.faults files) (f.faults files') → StayedCalm (i.faults input) (i.faults input') → FileFails f i request files files' input input' ⊎ (InputFails f i request files files' input input' ⊎ MoreFails f i request files files' input input') → ⊥
 read-failed f i request files files' input input' calm calm' (inl h) = calm-not_risen (f.faults files) (f.faults files') calm h.risen
 read-failed f i request files files' input input' calm calm' (inr (inl h)) = calm-not_risen (i.faults input) (i.faults input') calm' h.risen
 read-failed f i request files files' input input' calm calm' (inr (inr h)) = calm-not_risen (f.faults files) (f.faults files') calm h.risen
@@ -260,4 +283,36 @@ module _ (request : Request) (known : Known) (file : List ℕ) (is : known.file 
   text-done (inl e) task = inl e
   text-done (inr d) task =
       let plan-is = plan-by request d.found Pack task ∙ ap (λ xs. Shows (OfText xs)) (found-file known d.found d.agrees file is) in
+      inr (subst (λ q. FollowsPlan q old new answer) plan-is d.follows)
+
+-- ---- batches that are done whole
+
+-- a batch of these names, whose images are all known
+module _ (request : Request) (known : Known) (list input : List ℕ) (names images : List (List ℕ)) (is : known.file ≡ Some list) (named : names_in list ≡ Some names)
+    (few : request.no_input ≡ false → (known.input ≡ Some input) × (length input ≤ input_limit))
+    (all : AllZip (λ name bytes. known.named name ≡ Some bytes) names images) where
+  same-images : (ns given theirs : List (List ℕ)) → AllZip (λ name bytes. known.named name ≡ Some bytes) ns given → AllZip (λ name bytes. Agrees (known.named name) bytes) ns theirs → theirs ≡ given
+  same-images [] [] [] h k = refl
+  same-images [] [] (y ∷ ys) h k = absurd k
+  same-images [] (x ∷ xs) ys h k = absurd h
+  same-images (n ∷ ns) [] ys h k = absurd h
+  same-images (n ∷ ns) (x ∷ xs) [] h k = absurd k
+  same-images (n ∷ ns) (x ∷ xs) (y ∷ ys) h k =
+      let first : y ≡ x = subst (λ (o : Option (List ℕ)). Agrees o y) h.0 k.0 in
+      ap (λ z. z ∷ ys) first ∙ ap (λ zs. x ∷ zs) (same-images ns xs ys h.1 k.1)
+
+  pub batch-done : (old new : Sinks) (answer : Answer) → IsComplete (Some request) known old new answer → request.task ≡ BatchTask
+      → (answer ≡ NoMemory) ⊎ TellsAll (batch_of request images (if request.no_input then [] else input)) old new answer
+  batch-done old new answer (inl e) task = inl e
+  batch-done old new answer (inr d) task =
+      let given : List ℕ = if request.no_input then [] else input in
+      let file : d.found.file ≡ list = found-file known d.found d.agrees list is in
+      let names-are : names_in d.found.file ≡ Some names = ap names_in file ∙ named in
+      let listed : list_in d.found.file ≡ Ok names = ap unless_none names-are in
+      let images-are : d.found.images ≡ images = same-images names images d.found.images all (d.agrees.images names names-are) in
+      let plan-is : plan (Some request) d.found ≡ Runs (batch_of request images given) =
+      plan-by request d.found BatchTask task
+      ∙ ap (λ x. after x (λ (ns : List (List ℕ)). after (input_in (not request.no_input) d.found.input) (λ taken. Runs (batch_of request d.found.images taken)))) listed
+      ∙ ap (λ x. after x (λ taken. Runs (batch_of request d.found.images taken))) (found-input known d.found d.agrees request.no_input input few)
+      ∙ ap (λ xs. Runs (batch_of request xs given)) images-are in
       inr (subst (λ q. FollowsPlan q old new answer) plan-is d.follows)

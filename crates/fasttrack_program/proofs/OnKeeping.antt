@@ -10,14 +10,17 @@ use Rattle.guest_streams.specs.declared.fault.OutputFault.TheVariants as F
 use Rattle.guest_streams.proofs.OnStreams.{GetsAll-nothing, StopsShort-amid, GetsPart-of}
 use Rattle.program_words.specs.declared.request.Task.{Task}
 use Rattle.program_words.specs.declared.request.Task.TheVariants as Tasks
-use Rattle.program_words.specs.declared.request.Task.TheVariants.{Alone, Run, Trial, Bench, Check, At, Pack}
+use Rattle.program_words.specs.declared.request.Task.TheVariants.{Alone, Run, Trial, Bench, Check, Batch as BatchTask, At, Pack}
 use Rattle.fasttrack_program.specs.declared.answer.Answer.{Answer}
 use Rattle.fasttrack_program.specs.declared.answer.Answer.TheVariants.{Shown, WriteFault, NoMemory}
 use Rattle.fasttrack_program.specs.declared.served.Served.{Served}
+use Rattle.fasttrack_program.specs.declared.served.Told.TheVariants.{Each}
 use Rattle.fasttrack_program.specs.Answers.{answer_of, answer_of_fault}
+use Rattle.job_listing.specs.Listing.{jobs_text}
+use Rattle.fasttrack_program.specs.Jobs.{Batch}
 use Rattle.fasttrack_program.specs.Promise.{Given, Promise, alone_on, promise_of, IsHistory}
 use Rattle.fasttrack_program.specs.Reading.{IsLate}
-use Rattle.fasttrack_program.specs.Serving.{plainly, wholly, IsWritten, IsShown, KeepsPromise}
+use Rattle.fasttrack_program.specs.Serving.{plainly, wholly, IsWritten, IsShown, KeepsPromise, IsRun}
 use Rattle.fasttrack_program.specs.Showing.{Showing, OfJournal, OfStates, OfWords, OfText, Tells}
 
 -- an output that broke off
@@ -65,6 +68,7 @@ late-task Run g = late-end (end_of (alone_on g).end)
 late-task Trial g = (λ is. cc, λ early. early)
 late-task (Bench number) g = (λ is. cc, λ early. early)
 late-task Check g = (λ is. cc, λ early. early)
+late-task BatchTask g = (λ is. cc, λ early. early)
 late-task At g = (λ is. cc, λ early. early)
 late-task Tasks.List g = (λ is. cc, λ early. early)
 late-task Pack g = (λ is. cc, λ early. early)
@@ -92,3 +96,7 @@ pub late-shown : (x : Showing) (old new : Sinks) (v : Served) → IsShown x old 
 late-shown x old new v (inl h) = late-written (marked 1 h.0) (plainly Shown) old new v (λ is. cc, λ early. early) h.2
 late-shown x old new v (inr (inl h)) = late-as v (plainly h.0) h.2 (late-told x h.0 h.1)
 late-shown x old new v (inr (inr h)) = late-as v (plainly NoMemory) h.0 (λ is. cc, λ early. early)
+
+pub late-run : (b : Batch) (old new : Sinks) (v : Served) → IsRun b old new v → IsLate v.answer
+late-run b old new v (inl h) = late-as v (plainly NoMemory) h.0 (λ is. cc, λ early. early)
+late-run b old new v (inr k) = late-written (marked 1 (jobs_text k.reports)) (record { answer = Shown; told = Each k.reports }) old new v (λ is. cc, λ early. early) k.kept

@@ -6,7 +6,7 @@ use Rattle.program_words.specs.CommandLine.{Request}
 use Rattle.fasttrack_program.specs.AnswerLine.{HasNumbers, line_of, without_line, IsSaidFor, WritesLine, WritesLineOf, Concludes}
 use Rattle.fasttrack_program.specs.Reading.{IsRefusedEarly, ReadsInOrder}
 use Rattle.fasttrack_program.specs.declared.answer.Answer.{Answer}
-use Rattle.fasttrack_program.specs.declared.answer.Answer.TheVariants.{Exited, Trapped, Spent, Shown, Usage, ReadFault, ImageTooLong, BadImage, InputTooLong, JournalTooLong, BadJournal, BadCounts, BadText, WriteFault, NoMemory}
+use Rattle.fasttrack_program.specs.declared.answer.Answer.TheVariants.{Exited, Trapped, Spent, Shown, Usage, ReadFault, ImageTooLong, BadImage, InputTooLong, JournalTooLong, BadJournal, BadList, BadCounts, BadText, WriteFault, NoMemory}
 
 -- a line that is the answer's own
 pub Concludes-own : (old new : Option (List ℕ)) (faults faults' : ℕ) (answer result : Answer) (line : List ℕ) → line_of answer ≡ Some line → WritesLine old new faults faults' answer result line → Concludes old new faults faults' answer result
@@ -51,6 +51,7 @@ kept-without (BadImage f) = inl refl
 kept-without InputTooLong = inl refl
 kept-without JournalTooLong = inl refl
 kept-without (BadJournal f) = inl refl
+kept-without BadList = inl refl
 kept-without (BadCounts line) = inl refl
 kept-without (BadText at) = inl refl
 kept-without WriteFault = inl refl

@@ -1,15 +1,17 @@
 -- From what was read and done to the plan of the call
-use Rattle.std.proofs.Common.{◌≡◌, ℕ, ◌≤◌, Bool, true, false, List, [], length, Option, Some, None, Result, Ok, Err, ◌⊎◌, inl, inr, refl, sym, ap, ◌∙◌, subst, arith}
+use Rattle.std.proofs.Common.{◌≡◌, ℕ, ◌≤◌, Bool, true, false, List, [], ◌∷◌, length, map, Option, Some, None, Result, Ok, Err, ◌⊎◌, inl, inr, refl, sym, ap, ◌∙◌, subst, arith}
 use Rattle.std.specs.Prelude.{nat_lt, IsTrue, not, if◌then◌else◌}
+use Rattle.std.specs.List.{AllZip}
 use Rattle.std.proofs.lemmas.Bool.Decides.{nat_tests}
 use Rattle.elf32_loader.specs.LoadedImage.{image_of_loaded}
 use Rattle.elf32_loader.specs.declared.loaded.Loaded.{Loaded}
 use Rattle.guest_model.specs.Image.{Image, image}
 use Rattle.guest_streams.specs.GuestStreams.{Sinks}
+use Rattle.job_listing.specs.Lists.{names_in}
 use Rattle.program_words.specs.CommandLine.{Request}
 use Rattle.program_words.specs.declared.request.Task.{Task}
 use Rattle.program_words.specs.declared.request.Task.TheVariants as Tasks
-use Rattle.program_words.specs.declared.request.Task.TheVariants.{Alone, Run, Trial, Bench, Check, At, Pack}
+use Rattle.program_words.specs.declared.request.Task.TheVariants.{Alone, Run, Trial, Bench, Check, Batch, At, Pack}
 use Rattle.fasttrack_program.specs.declared.served.Served.{Served}
 use Rattle.fasttrack_program.specs.declared.answer.Answer.{Answer}
 use Rattle.fasttrack_program.specs.declared.answer.Answer.TheVariants.{Usage}
@@ -17,9 +19,9 @@ use Rattle.rv32_asm.specs.Generated.{generated}
 use Rattle.fasttrack_program.specs.declared.guest.LoadedGuest.{LoadedGuest}
 use Rattle.fasttrack_program.specs.declared.options.Options.{Options}
 use Rattle.fasttrack_program.specs.Finding.{FindsProgram, FindsGuest}
-use Rattle.fasttrack_program.specs.Plan.{Plan, Refused, Does, Found, options_of, shows, runs_file, takes_file, takes_input, takes_beside, bytes_in, image_in, image_limit, input_in, input_limit, after, with_program, guest_plan, unless_bad, bench_image, bench_regions, plan_for, plan}
+use Rattle.fasttrack_program.specs.Plan.{Plan, Refused, Does, Found, options_of, runs_file, runs_guest, takes_file, takes_input, takes_beside, takes_more, takes_program, bytes_in, image_in, image_limit, input_in, input_limit, after, with_program, guest_plan, unless_bad, bench_image, bench_regions, plan_for, plan}
 use Rattle.fasttrack_program.specs.Promise.{promise_of}
-use Rattle.fasttrack_program.specs.Reading.{Agrees, Known, AgreesWith, IsUnread}
+use Rattle.fasttrack_program.specs.Reading.{Agrees, AreNamed, Holds, Known, AgreesWith, IsUnread}
 use Rattle.fasttrack_program.specs.Serving.{plainly, KeepsPromise, Keeps, IsServed}
 use Rattle.fasttrack_program.specs.TopCall.{IsRequest}
 use Rattle.fasttrack_program.specs.Tracks.{given_of}
@@ -36,19 +38,43 @@ unfolding some_bytes
 some_agree None = tt
 some_agree (Some bytes) = refl
 
+-- the same of each file that a list names
+images_of : (List ℕ → Option (List ℕ)) → Option (List (List ℕ)) → List (List ℕ)
+images_of named None = []
+images_of named (Some names) = map (λ name. some_bytes (named name)) names
+
+each_agrees : (named : List ℕ → Option (List ℕ)) (names : List (List ℕ)) → AllZip (λ name bytes. Agrees (named name) bytes) names (map (λ name. some_bytes (named name)) names)
+each_agrees named [] = tt
+each_agrees named (name ∷ names) = (some_agree (named name), each_agrees named names)
+
+images_agree : (named : List ℕ → Option (List ℕ)) (names : Option (List (List ℕ))) (all : List (List ℕ)) → names ≡ Some all → AllZip (λ name bytes. Agrees (named name) bytes) all (images_of named names)
+unfolding images_of
+images_agree named None all e = absurd (cc)
+images_agree named (Some names) all e =
+    let same : names ≡ all = cc in
+    subst (λ (xs : List (List ℕ)). AllZip (λ name bytes. Agrees (named name) bytes) xs (map (λ name. some_bytes (named name)) names)) same (each_agrees named names)
+
+-- those that a file names
+pub some_images : Known → List ℕ → List (List ℕ)
+some_images known file = images_of known.named (names_in file)
+
+pub some_named : (known : Known) (file : List ℕ) → AreNamed known.named file (some_images known file)
+unfolding some_images
+some_named known file = λ names is. images_agree known.named (names_in file) names is
+
 pub some_found : Known → Found
-some_found known = record { file = some_bytes known.file; input = some_bytes known.input; beside = some_bytes known.beside }
+some_found known = record { file = some_bytes known.file; input = some_bytes known.input; beside = some_bytes known.beside; images = some_images known (some_bytes known.file) }
 
 pub some_agrees : (known : Known) → AgreesWith known (some_found known)
 unfolding some_found
-some_agrees known = record { file = some_agree known.file; input = some_agree known.input; beside = some_agree known.beside }
+some_agrees known = record { file = some_agree known.file; input = some_agree known.input; beside = some_agree known.beside; images = some_named known (some_bytes known.file) }
 
 -- the same with these bytes in the file, and these in the input
 abbrev pub found_both : Known → (file input : List ℕ) → Found
-found_both known file input = record { file = file; input = input; beside = some_bytes known.beside }
+found_both known file input = record { file = file; input = input; beside = some_bytes known.beside; images = some_images known file }
 
 pub agrees_both : (known : Known) (file input : List ℕ) → Agrees known.file file → Agrees known.input input → AgreesWith known (found_both known file input)
-agrees_both known file input h k = record { file = h; input = k; beside = some_agree known.beside }
+agrees_both known file input h k = record { file = h; input = k; beside = some_agree known.beside; images = some_named known file }
 
 abbrev pub found_file : Known → List ℕ → Found
 found_file known file = found_both known file (some_bytes known.input)
@@ -61,26 +87,51 @@ agrees_file known file h = agrees_both known file (some_bytes known.input) h (so
 pub plan-by : (r : Request) (found : Found) (task : Task) → r.task ≡ task → plan (Some r) found ≡ plan_for task r found
 plan-by r found task e = ap (λ t. plan_for t r found) e
 
-pub no_bench : (task : Task) → ((number : ℕ) → task ≡ Bench number → ⊥) → shows task ≡ false → IsTrue (runs_file task)
+pub no_bench : (task : Task) → ((number : ℕ) → task ≡ Bench number → ⊥) → IsTrue (runs_guest task) → IsTrue (runs_file task)
 no_bench Alone h k = refl
 no_bench Run h k = refl
 no_bench Trial h k = refl
 no_bench (Bench number) h k = absurd (h number refl)
 no_bench Check h k = absurd (cc)
+no_bench Batch h k = absurd (cc)
 no_bench At h k = absurd (cc)
 no_bench Tasks.List h k = absurd (cc)
 no_bench Pack h k = absurd (cc)
 
--- such a task reads the input, and each task that does reads a file
-pub file-takes : (task : Task) → IsTrue (runs_file task) → IsTrue (takes_input task)
+-- such a task reads a program, each task that does the input, and each task that does a file
+pub file-takes : (task : Task) → IsTrue (runs_file task) → IsTrue (takes_program task)
 file-takes Alone h = refl
 file-takes Run h = refl
 file-takes Trial h = refl
 file-takes (Bench number) h = absurd (cc)
 file-takes Check h = absurd (cc)
+file-takes Batch h = absurd (cc)
 file-takes At h = absurd (cc)
 file-takes Tasks.List h = absurd (cc)
 file-takes Pack h = absurd (cc)
+
+pub program-takes : (task : Task) → IsTrue (takes_program task) → IsTrue (takes_input task)
+program-takes Alone h = refl
+program-takes Run h = refl
+program-takes Trial h = refl
+program-takes (Bench number) h = absurd (cc)
+program-takes Check h = refl
+program-takes Batch h = absurd (cc)
+program-takes At h = refl
+program-takes Tasks.List h = absurd (cc)
+program-takes Pack h = absurd (cc)
+
+-- the file of its program is not refused
+pub holds-program : (task : Task) → IsTrue (takes_program task) → (file : List ℕ) (i : Image) → image_in file ≡ Ok i → Holds task file
+holds-program Alone h file i loads = (i, loads)
+holds-program Run h file i loads = (i, loads)
+holds-program Trial h file i loads = (i, loads)
+holds-program (Bench number) h file i loads = absurd (cc)
+holds-program Check h file i loads = (i, loads)
+holds-program Batch h file i loads = absurd (cc)
+holds-program At h file i loads = (i, loads)
+holds-program Tasks.List h file i loads = absurd (cc)
+holds-program Pack h file i loads = absurd (cc)
 
 pub input-takes : (task : Task) → IsTrue (takes_input task) → IsTrue (takes_file task)
 input-takes Alone h = refl
@@ -88,27 +139,41 @@ input-takes Run h = refl
 input-takes Trial h = refl
 input-takes (Bench number) h = absurd (cc)
 input-takes Check h = refl
+input-takes Batch h = refl
 input-takes At h = refl
 input-takes Tasks.List h = absurd (cc)
 input-takes Pack h = absurd (cc)
 
-pub beside-takes : (task : Task) → IsTrue (takes_beside task) → IsTrue (takes_input task)
+pub beside-takes : (task : Task) → IsTrue (takes_beside task) → IsTrue (takes_program task)
 beside-takes Alone h = absurd (cc)
 beside-takes Run h = absurd (cc)
 beside-takes Trial h = absurd (cc)
 beside-takes (Bench number) h = absurd (cc)
 beside-takes Check h = refl
+beside-takes Batch h = absurd (cc)
 beside-takes At h = refl
 beside-takes Tasks.List h = absurd (cc)
 beside-takes Pack h = absurd (cc)
 
+pub beside-more : (task : Task) → IsTrue (takes_beside task) → IsTrue (takes_more task)
+beside-more Alone h = absurd (cc)
+beside-more Run h = absurd (cc)
+beside-more Trial h = absurd (cc)
+beside-more (Bench number) h = absurd (cc)
+beside-more Check h = refl
+beside-more Batch h = absurd (cc)
+beside-more At h = refl
+beside-more Tasks.List h = absurd (cc)
+beside-more Pack h = absurd (cc)
+
 -- a task with tracks runs a guest
-pub tracks-run : (task : Task) → IsTrue (promise_of task).has_tracks → shows task ≡ false
+pub tracks-run : (task : Task) → IsTrue (promise_of task).has_tracks → IsTrue (runs_guest task)
 tracks-run Alone h = refl
 tracks-run Run h = refl
 tracks-run Trial h = refl
 tracks-run (Bench number) h = refl
 tracks-run Check h = absurd (cc)
+tracks-run Batch h = absurd (cc)
 tracks-run At h = absurd (cc)
 tracks-run Tasks.List h = absurd (cc)
 tracks-run Pack h = absurd (cc)
@@ -119,6 +184,7 @@ file-plan_by r found Run h = refl
 file-plan_by r found Trial h = refl
 file-plan_by r found (Bench number) h = absurd (cc)
 file-plan_by r found Check h = absurd (cc)
+file-plan_by r found Batch h = absurd (cc)
 file-plan_by r found At h = absurd (cc)
 file-plan_by r found Tasks.List h = absurd (cc)
 file-plan_by r found Pack h = absurd (cc)

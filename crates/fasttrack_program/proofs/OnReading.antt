@@ -6,15 +6,12 @@ use Rattle.std.proofs.lemmas.List.{length-replicate}
 use Rattle.host_io.specs.Faults.{Rose}
 use Rattle.host_io.specs.declared.files.Files.{Ghosts as FilesRow}
 use Rattle.host_io.specs.declared.source.Source.{Ghosts as SourceRow}
-use Rattle.elf32_loader.specs.LoadedImage.{image_of_loaded}
 use Rattle.guest_model.specs.Image.{Image}
 use Rattle.program_words.specs.CommandLine.{Request}
-use Rattle.fasttrack_program.specs.Finding.{FindsProgram, ReadsFor}
-use Rattle.fasttrack_program.specs.Plan.{takes_file, takes_input, takes_beside, reads_file, reads_input, bytes_in, image_in, image_limit, input_in, input_limit}
-use Rattle.fasttrack_program.specs.Reading.{Agrees, Known, known_file, Reads, CountsReadFault, IsRefusedEarly, IsLate, ReadsInOrder}
+use Rattle.fasttrack_program.specs.Plan.{takes_file, takes_input, takes_more, reads_file, reads_input, bytes_in, image_in, image_limit, input_in, input_limit}
+use Rattle.fasttrack_program.specs.Reading.{Agrees, Holds, IsUnread, known_file, Reads, CountsReadFault, IsRefusedEarly, IsLate, ReadsInOrder}
 use Rattle.fasttrack_program.specs.declared.answer.Answer.{Answer}
 use Rattle.fasttrack_program.specs.declared.answer.Answer.TheVariants.{Shown, ReadFault, ImageTooLong, InputTooLong}
-use Rattle.fasttrack_program.specs.declared.guest.LoadedGuest.{LoadedGuest}
 use Rattle.fasttrack_program.proofs.OnPlans.{some_bytes, some_agree}
 use Rattle.fasttrack_program.proofs.OnSubjects.{too-long}
 
@@ -44,8 +41,13 @@ no_input known = (some_bytes known, some_agree known, refl)
 
 -- ---- how a call reads
 
+-- neither a failed read nor want of memory comes early
+pub late-unread : (a : Answer) → IsUnread a → IsRefusedEarly a → ⊥
+late-unread a (inl e) early = subst IsRefusedEarly e early
+late-unread a (inr e) early = subst IsRefusedEarly e early
+
 -- an answer that refuses bytes by their length is that one
-late-bytes : (limit : ℕ) (too_long : Answer) (known : Option (List ℕ)) (a : Answer) → IsLate too_long → Reads {A = List ℕ} (bytes_in limit too_long) known (Err a) → IsRefusedEarly a → ⊥
+pub late-bytes : (limit : ℕ) (too_long : Answer) (known : Option (List ℕ)) (a : Answer) → IsLate too_long → Reads {A = List ℕ} (bytes_in limit too_long) known (Err a) → IsRefusedEarly a → ⊥
 late-bytes limit too_long known a late (inl (inl e)) early = subst IsRefusedEarly e early
 late-bytes limit too_long known a late (inl (inr e)) early = subst IsRefusedEarly e early
 late-bytes limit too_long known a late (inr h) early = late.1 (subst IsRefusedEarly (too-long limit too_long a h.0 h.2).0 early)
@@ -79,7 +81,7 @@ and-true true b h = refl
 and-true false b h = absurd (cc)
 
 -- a task that takes the input reads it, unless that is to be left unread
-reads_input-is : (r : Request) → IsTrue (takes_input r.task) → reads_input (Some r) ≡ not r.no_input
+pub reads_input-is : (r : Request) → IsTrue (takes_input r.task) → reads_input (Some r) ≡ not r.no_input
 reads_input-is r h = and-true (takes_input r.task) (not r.no_input) h
 
 module _ {F I : Type 0} (f : FilesRow F) (i : SourceRow I) (r : Request) (file : IsTrue (takes_file r.task)) (files files' : F) where
@@ -125,17 +127,16 @@ module _ {F I : Type 0} (f : FilesRow F) (i : SourceRow I) (r : Request) (file :
     wanted-by true e a is = e
     wanted-by false e a is = absurd (let good : false ≡ true = subst IsOk is (unread (sym (reads_input-is r wants) ∙ e)).1 in cc)
 
-    pub reads-input : (bytes : List ℕ) (image : Image) → Agrees (known_file f (Some r) files) bytes → image_in bytes ≡ Ok image → (a : Answer) → given ≡ Err a
+    pub reads-input : (bytes : List ℕ) → Agrees (known_file f (Some r) files) bytes → Holds r.task bytes → (a : Answer) → given ≡ Err a
         → CountsReadFault {T = List ℕ} (i.faults input) (i.faults input') (Err a) → Reads {A = List ℕ} (input_in (not r.no_input)) (i.remaining input) (Err a) → ReadsInOrder f i (Some r) files files' input input' a
-    reads-input bytes image agrees loads a is c reads = record {
+    reads-input bytes agrees holds a is c reads = record {
       fault = λ e. inr (inl (record {
         wanted = wanted-by (reads_input (Some r)) refl a is;
         risen = risen-by (List ℕ) (i.faults input) (i.faults input') a c e;
         calm = calm;
         file = bytes;
         agrees = agrees;
-        image = image;
-        loads = loads;
+        accepted = holds;
       }));
       counted = λ other. (calm, calm-by (List ℕ) (i.faults input) (i.faults input') a c other);
       no_file = λ e. absurd (named e);
@@ -143,18 +144,19 @@ module _ {F I : Type 0} (f : FilesRow F) (i : SourceRow I) (r : Request) (file :
       early = λ e. absurd (late-input (not r.no_input) (i.remaining input) a reads e);
     }
 
--- behind a program, the file of `--with`
-module _ {F I : Type 0} (f : FilesRow F) (i : SourceRow I) (r : Request) (file : IsTrue (takes_file r.task)) (files between files' : F) (input input' : I) (guest : LoadedGuest)
-    (first : ReadsFor {A = LoadedGuest} f i r files between input input' (Ok guest)) where
-  before : ReadsInOrder f i (Some r) files between input input' Shown
-  before = first Shown (λ e. cc, λ e. e)
+-- the answer of a task that was done
+pub late-Shown : IsLate Shown
+late-Shown = (λ e. cc, λ e. e)
 
+-- behind the input, further files
+module _ {F I : Type 0} (f : FilesRow F) (i : SourceRow I) (r : Request) (file : IsTrue (takes_file r.task)) (files between files' : F) (input input' : I)
+    (before : ReadsInOrder f i (Some r) files between input input' Shown) where
   calm_before : (f.faults between ≡ f.faults files) × (i.faults input' ≡ i.faults input)
   calm_before = before.counted (λ e. cc)
 
-  -- the task was done on both
-  pub reads-both : f.faults files' ≡ f.faults between → (answer : Answer) → IsLate answer → ReadsInOrder f i (Some r) files files' input input' answer
-  reads-both calm answer late = record {
+  -- the task was done on them
+  pub reads-all : f.faults files' ≡ f.faults between → (answer : Answer) → IsLate answer → ReadsInOrder f i (Some r) files files' input input' answer
+  reads-all calm answer late = record {
     fault = λ e. absurd (late.0 e);
     counted = λ e. (calm ∙ calm_before.0, calm_before.1);
     no_file = λ e. absurd (named f i r file files files' e);
@@ -162,27 +164,25 @@ module _ {F I : Type 0} (f : FilesRow F) (i : SourceRow I) (r : Request) (file :
     early = λ e. absurd (late.1 e);
   }
 
-  -- the file was refused, or could not be read
-  module _ (wants : IsTrue (takes_input r.task)) (needs : IsTrue (takes_beside r.task)) (known : Known) (same_file : known.file ≡ known_file f (Some r) files) (same_input : known.input ≡ i.remaining input)
-      (program : FindsProgram (not r.no_input) known (Ok guest)) where
-    pub reads-beside : (limit : ℕ) (too_long : Answer) (beside : Option (List ℕ)) (a : Answer) → IsLate too_long → CountsReadFault {T = List ℕ} (f.faults between) (f.faults files') (Err a)
-        → Reads {A = List ℕ} (bytes_in limit too_long) beside (Err a) → ReadsInOrder f i (Some r) files files' input input' a
-    reads-beside limit too_long beside a late c reads = record {
+  -- one of them was refused, or could not be read
+  module _ (needs : IsTrue (takes_more r.task)) (bytes : List ℕ) (agrees : Agrees (known_file f (Some r) files) bytes) (holds : Holds r.task bytes)
+      (given : List ℕ) (input_agrees : Agrees (i.remaining input) given) (taken : List ℕ) (takes : input_in (reads_input (Some r)) given ≡ Ok taken) where
+    pub reads-more : (T : Type 0) (a : Answer) → CountsReadFault {T = T} (f.faults between) (f.faults files') (Err a) → (IsRefusedEarly a → ⊥) → ReadsInOrder f i (Some r) files files' input input' a
+    reads-more T a c late = record {
       fault = λ e. inr (inr (record {
         wanted = needs;
-        risen = subst (λ n. Rose n (f.faults files')) calm_before.0 (risen-by (List ℕ) (f.faults between) (f.faults files') a c e);
+        risen = subst (λ n. Rose n (f.faults files')) calm_before.0 (risen-by T (f.faults between) (f.faults files') a c e);
         calm = calm_before.1;
-        file = program.0.0;
-        agrees = subst (λ k. Agrees k program.0.0) same_file program.0.1;
-        image = image_of_loaded guest.loaded;
-        loads = program.0.2;
-        given = program.1.0;
-        input_agrees = subst (λ k. Agrees k program.1.0) same_input program.1.1;
-        taken = guest.input;
-        takes = ap (λ b. input_in b program.1.0) (reads_input-is r wants) ∙ program.1.2;
+        file = bytes;
+        agrees = agrees;
+        accepted = holds;
+        given = given;
+        input_agrees = input_agrees;
+        taken = taken;
+        takes = takes;
       }));
-      counted = λ other. (calm-by (List ℕ) (f.faults between) (f.faults files') a c other ∙ calm_before.0, calm_before.1);
+      counted = λ other. (calm-by T (f.faults between) (f.faults files') a c other ∙ calm_before.0, calm_before.1);
       no_file = λ e. absurd (named f i r file files files' e);
       no_input = before.no_input;
-      early = λ e. absurd (late-bytes limit too_long beside a late reads e);
+      early = λ e. absurd (late e);
     }

@@ -36,6 +36,7 @@ use Rattle.fasttrack_program.specs.Answers.{answer_of, answer_of_fault}
 use Rattle.fasttrack_program.specs.Promise.{Given, alone_on, texts_behind, promise_of, settings_of, IsHistory}
 use Rattle.journal_check.specs.Journals.{journal_text}
 use Rattle.fasttrack_program.specs.Reports.{bench_report, asked_texts}
+use Rattle.fasttrack_program.specs.declared.served.Told.TheVariants.{One}
 use Rattle.fasttrack_program.specs.Serving.{plainly, KeepsPromise}
 use Rattle.sink_text.specs.TextOnSink.{WritesText}
 use Rattle.fasttrack_program.specs.Tracks.{given_of, board_for, RunsTracks, HasOutcome}
@@ -183,11 +184,11 @@ module _ (l : Loaded) (input : List ℕ) (o : Options) (entries : List Entry) (o
   module _ (old mid : Sinks) (held : Option (List ℕ)) (faults : ℕ) (got : GetsAll old mid (output_of (alone_on (given_of l input o)))) where
     -- all texts were written
     pub run-whole : WritesText {T = Unit {0}} mid.notes held mid.notes_faults faults (asked_texts o outcome.rows f outcome.entries) (Ok tt)
-        → KeepsPromise (promise_of Run) (given_of l input o) old (noted mid held faults) (record { answer = answer_of f.end; history = Some outcome.entries })
+        → KeepsPromise (promise_of Run) (given_of l input o) old (noted mid held faults) (record { answer = answer_of f.end; told = One outcome.entries })
     run-whole w =
         let g = given_of l input o in
         let written = subst (λ text. WritesText {T = Unit {0}} mid.notes held mid.notes_faults faults text (Ok tt)) texts-are w in
-        subst (λ e. KeepsPromise (promise_of Run) g old (noted mid held faults) (record { answer = answer_of e; history = Some outcome.entries })) (sym tells-program.end)
+        subst (λ e. KeepsPromise (promise_of Run) g old (noted mid held faults) (record { answer = answer_of e; told = One outcome.entries })) (sym tells-program.end)
         (kept-whole (promise_of Run) g outcome.entries run-history old (noted mid held faults)
         (behind_all old mid held faults (output_of (alone_on g)) (texts_behind g outcome.entries) got written))
 
@@ -223,7 +224,7 @@ module _ (l : Loaded) (input : List ℕ) (o : Options) (entries : List Entry) (o
     module _ (old : Sinks) (held : Option (List ℕ)) (faults : ℕ) where
       -- all of the summary was written
       pub bench-whole : WritesText {T = Unit {0}} old.out held old.out_faults faults summary (Ok tt)
-          → KeepsPromise (promise_of (Bench number)) (given_of l input o) old (record old { out = held; out_faults = faults }) (record { answer = A.Shown; history = Some outcome.entries })
+          → KeepsPromise (promise_of (Bench number)) (given_of l input o) old (record old { out = held; out_faults = faults }) (record { answer = A.Shown; told = One outcome.entries })
       bench-whole w =
           report-whole (promise_of (Bench number)) (given_of l input o) outcome.entries run-history (bench_report number (image_of_loaded l) input o.budget) refl old held faults
           (subst (λ text. WritesText {T = Unit {0}} old.out held old.out_faults faults text (Ok tt)) summary-is_report w)

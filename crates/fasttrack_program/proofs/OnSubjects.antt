@@ -17,12 +17,12 @@ use Rattle.fasttrack_program.specs.declared.served.Served.{Served}
 use Rattle.fasttrack_program.specs.declared.subject.Subject.{Subject}
 use Rattle.fasttrack_program.specs.declared.subject.Subject.TheVariants.{Journal, States, Words, Text}
 use Rattle.fasttrack_program.specs.Finding.{FindsProgram, FindsBoth, FindsSubject, IsRefusedBy, showing_of}
-use Rattle.fasttrack_program.specs.Plan.{Plan, Refused, Does, Shows, Found, options_of, bytes_in, image_in, journal_limit, after, with_program, journal_plan, plan}
+use Rattle.fasttrack_program.specs.Plan.{Plan, Refused, Does, Shows, Runs, Found, options_of, bytes_in, image_in, journal_limit, after, with_program, journal_plan, plan}
 use Rattle.fasttrack_program.specs.Promise.{settings_of}
 use Rattle.fasttrack_program.specs.Reading.{Known, AgreesWith, IsUnread, Reads}
 use Rattle.fasttrack_program.specs.Serving.{plainly, IsShown, Keeps, IsServed}
 use Rattle.fasttrack_program.specs.Showing.{OfJournal, OfStates, OfWords, OfText}
-use Rattle.fasttrack_program.proofs.OnPlans.{found_file, agrees_file, plan-by, with-both, program-refused, served-plan, served-unread}
+use Rattle.fasttrack_program.proofs.OnPlans.{found_file, agrees_file, some_images, some_named, plan-by, with-both, program-refused, served-plan, served-unread}
 
 -- ---- calls that were served
 
@@ -36,6 +36,7 @@ keeps-refusal : (p : Plan) (a : Answer) (s : Sinks) → IsRefusedBy p a → Keep
 keeps-refusal (Refused answer) a s h = (ap plainly h, refl)
 keeps-refusal (Does p g) a s h = absurd h
 keeps-refusal (Shows x) a s h = inr (inl (a, h, refl, refl))
+keeps-refusal (Runs b) a s h = absurd h
 
 -- none was found
 pub served-no_subject : (r : Request) (known : Known) (a : Answer) (s : Sinks) → FindsSubject r known (Err a) → IsServed (Some r) known s s (plainly a)
@@ -79,7 +80,7 @@ program-none r known a next is h = refused (program-refused r known a h)
 module _ (r : Request) (known : Known) (next : Found → Image → List ℕ → Plan) (is : (found : Found) → plan (Some r) found ≡ with_program r found (next found)) (guest : LoadedGuest)
     (program : FindsProgram (not r.no_input) known (Ok guest)) where
   all_found : List ℕ → Found
-  all_found bytes = record { file = program.0.0; input = program.1.0; beside = bytes }
+  all_found bytes = record { file = program.0.0; input = program.1.0; beside = bytes; images = some_images known program.0.0 }
 
   both-plan : (bytes : List ℕ) → plan (Some r) (all_found bytes) ≡ next (all_found bytes) (image_of_loaded guest.loaded) guest.input
   unfolding all_found
@@ -87,7 +88,7 @@ module _ (r : Request) (known : Known) (next : Found → Image → List ℕ → 
 
   both-found : (bytes : List ℕ) → IfSome known.beside (λ all. bytes ≡ all) → AgreesWith known (all_found bytes)
   unfolding all_found
-  both-found bytes agrees = record { file = program.0.1; input = program.1.1; beside = agrees }
+  both-found bytes agrees = record { file = program.0.1; input = program.1.1; beside = agrees; images = some_named known program.0.0 }
 
   -- the file of `--with` was read
   both-some : (bytes : List ℕ) (subject : Subject) → IfSome known.beside (λ all. bytes ≡ all)

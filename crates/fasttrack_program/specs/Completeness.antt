@@ -6,7 +6,7 @@ use Rattle.host_io.specs.Faults.{StayedCalm}
 use Rattle.host_io.specs.declared.files.Files.{Ghosts as FilesRow}
 use Rattle.host_io.specs.declared.source.Source.{Ghosts as SourceRow}
 use Rattle.guest_streams.specs.GuestStreams.{Sinks, Gets}
-use Rattle.job_listing.specs.declared.reports.JobReport.{JobReport}
+use Rattle.job_listing.specs.declared.report.JobReport.{JobReport}
 use Rattle.job_listing.specs.Listing.{jobs_text}
 use Rattle.program_words.specs.CommandLine.{Request}
 use Rattle.fasttrack_program.specs.AnswerLine.{line_of}

@@ -5,8 +5,8 @@ use Rattle.guest_model.specs.Image.{Image}
 use Rattle.host_io.specs.declared.files.Files.{Ghosts as FilesRow}
 use Rattle.host_io.specs.declared.source.Source.{Ghosts as SourceRow}
 use Rattle.elf32_loader.specs.LoadedImage.{image_of_loaded}
-use Rattle.job_listing.specs.declared.reports.JobStart.{JobStart}
-use Rattle.job_listing.specs.declared.reports.JobStart.TheVariants as Starts
+use Rattle.job_listing.specs.declared.report.JobStart.{JobStart}
+use Rattle.job_listing.specs.declared.report.JobStart.TheVariants as Starts
 use Rattle.program_words.specs.CommandLine.{Request}
 use Rattle.speculation.specs.declared.history.Settings.{Settings}
 use Rattle.track_board.specs.Value.{Posted}

@@ -10,8 +10,8 @@ use Rattle.job_batch.specs.Ends.{IsEndOf}
 use Rattle.job_batch.specs.declared.ends.JobEnd.{JobEnd}
 use Rattle.job_batch.specs.declared.ends.JobOutcome.{JobOutcome}
 use Rattle.job_batch.specs.declared.ends.JobOutcome.TheVariants as Outcomes
-use Rattle.job_listing.specs.declared.reports.JobReport.{JobReport}
-use Rattle.job_listing.specs.declared.reports.JobReport.TheVariants as Reports
+use Rattle.job_listing.specs.declared.report.JobReport.{JobReport}
+use Rattle.job_listing.specs.declared.report.JobReport.TheVariants as Reports
 use Rattle.fasttrack_program.specs.declared.answer.Answer.{Answer}
 use Rattle.fasttrack_program.specs.declared.answer.Answer.TheVariants.{ImageTooLong, BadImage}
 

@@ -4,7 +4,7 @@ use Rattle.speculation.specs.declared.history.Entry.{Entry}
 use Rattle.speculation.specs.Run.{Mark, marked}
 use Rattle.guest_streams.specs.GuestStreams.{Sinks, GetsAll, GetsPart, StopsShort}
 use Rattle.guest_streams.specs.declared.fault.OutputFault.{OutputFault}
-use Rattle.job_listing.specs.declared.reports.JobReport.{JobReport}
+use Rattle.job_listing.specs.declared.report.JobReport.{JobReport}
 use Rattle.job_listing.specs.Listing.{jobs_text}
 use Rattle.program_words.specs.CommandLine.{Request}
 use Rattle.fasttrack_program.specs.Answers.{answer_of_fault}
@@ -75,6 +75,10 @@ Keeps (Runs b) old new s = KeepsBatch b old new s
 -- a read failed, or memory ran out before the task was begun: nothing was written
 abbrev pub IsStopped : Sinks → Sinks → Served → Type 0
 IsStopped old new s = ((s ≡ plainly ReadFault) ⊎ (s ≡ plainly NoMemory)) × (new ≡ old)
+
+-- the jobs of a batch were run and shown, or memory ran out before
+abbrev pub IsRun : Batch → Sinks → Sinks → Served → Type 0
+IsRun b old new s = ((s ≡ plainly NoMemory) × (new ≡ old)) ⊎ KeepsBatch b old new s
 
 -- The plan was kept for some file and some input, which are those that are known, where they are known.
 pub record IsServed (request : Option Request) (known : Known) (old new : Sinks) (s : Served) : Type 0 where

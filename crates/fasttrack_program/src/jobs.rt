@@ -2,7 +2,7 @@
 
 ghost use Rattle.std.specs.Prelude.{◌≡◌, ◌≢◌, ◌≤◌, [], ◌∷◌, ◌++◌, IfOk, OnOk, IsTrue, Some, length, map, string_bytes};
 ghost use Rattle.elf32_loader.specs.LoadedImage.{image_of_loaded};
-ghost use Rattle.job_listing.specs.declared.reports.JobStart.TheVariants as Starts;
+ghost use Rattle.job_listing.specs.declared.report.JobStart.TheVariants as Starts;
 ghost use Rattle.program_words.specs.CommandLine.{asked};
 ghost use Rattle.program_words.specs.declared.request.Task.TheVariants.{Batch};
 ghost use Rattle.track_board.specs.Value.{IsSettings};
@@ -23,7 +23,7 @@ use std::sync::Arc;
 use track_board::{Board, Settings};
 
 /// The most bytes of a list.
-const LIST_LIMIT: u64 = 4_096;
+const LIST_LIMIT: u64 = job_listing::MOST_BYTES as u64;
 
 /// The most regions that may be open at once in a job, so that the boards of all jobs are small.
 const MOST_JOB_TRACKS: u64 = 2;

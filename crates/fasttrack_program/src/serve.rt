@@ -1,11 +1,11 @@
 //! One call of the program up to its answer's line.
 
-ghost use Rattle.std.specs.Prelude.{◌≡◌, ◌≤◌, Some, IsTrue, false};
+ghost use Rattle.std.specs.Prelude.{◌≡◌, ◌≢◌, ◌≤◌, Some, IsTrue, false};
 ghost use Rattle.guest_streams.specs.GuestStreams.{Sinks, sinks_of, with_out};
 ghost use Rattle.program_words.specs.CommandLine.{HasFile, asked};
-ghost use Rattle.program_words.specs.declared.request.Task.TheVariants.{Alone};
+ghost use Rattle.program_words.specs.declared.request.Task.TheVariants.{Alone, Batch};
 ghost use Rattle.track_board.specs.Value.{IsSettings};
-ghost use Rattle.fasttrack_program.specs.Plan.{options_of, shows};
+ghost use Rattle.fasttrack_program.specs.Plan.{options_of, runs_guest, shows};
 ghost use Rattle.fasttrack_program.specs.Promise.{promise_of, settings_of};
 ghost use Rattle.fasttrack_program.specs.Reading.{ReadsInOrder, known_of};
 ghost use Rattle.fasttrack_program.specs.Serving.{IsServed, KeepsPromise};
@@ -15,9 +15,11 @@ ghost use Rattle.fasttrack_program.specs.Tracks.{given_of};
 use crate::alone::run_alone;
 use crate::answer::{Answer, answer_of, answer_of_fault};
 use crate::guest::{LoadedGuest, find_guest};
+use crate::jobs::find_jobs;
 use crate::options::{Options, options_in};
 use crate::served::{Served, plain};
 use crate::show::show;
+use crate::show_batch::show_batch;
 use crate::show_bench::{show_bench, show_bench_with_workers};
 use crate::show_run::{show_run, show_run_with_workers};
 use crate::show_trial::show_trial;
@@ -70,7 +72,7 @@ fn do_task<O: Sink, N: Sink>(
 ) -> Served
     requires settings { IsSettings (settings_of options.now) }
     requires alone { IsTrue (promise_of task).has_tracks → options.now.workers ≡ 0 }
-    requires guest { shows task ≡ false }
+    requires guest { IsTrue (runs_guest task) }
     ensures { KeepsPromise (promise_of task) (given_of guest.loaded guest.input options.now)
         (sinks_of O.Sink N.Sink out.old notes.old) (sinks_of O.Sink N.Sink out.new notes.new) result }
 {
@@ -79,7 +81,7 @@ fn do_task<O: Sink, N: Sink>(
         Task::Run => show_run(alloc, guest, options, out, notes),
         Task::Trial => show_trial(alloc, &guest, options, out),
         Task::Bench(number) => show_bench(alloc, number, guest, options, out),
-        Task::Check | Task::At | Task::List | Task::Pack => unreachable!(),
+        Task::Check | Task::Batch | Task::At | Task::List | Task::Pack => unreachable!(),
     }
 }
 
@@ -175,7 +177,7 @@ fn serve_guest<F: Files, I: Source, O: Sink, N: Sink>(
 ) -> Served
     requires settings { IsSettings (settings_of (options_of (asked request.now))) }
     requires alone { needs_workers (Some (asked request.now)) ≡ false }
-    requires guest { shows request.now.task ≡ false }
+    requires guest { IsTrue (runs_guest request.now.task) }
     ensures served { let request = Some (asked request.now) in
         IsServed request (known_of F.Files I.Source request files.old input.old)
         (sinks_of O.Sink N.Sink out.old notes.old) (sinks_of O.Sink N.Sink out.new notes.new) result }
@@ -189,7 +191,7 @@ fn serve_guest<F: Files, I: Source, O: Sink, N: Sink>(
     }
 }
 
-/// Finds the guest of a request that asks for workers, and does its task by these.
+/// Does the task of a request that asks for workers, by these.
 pub fn serve_with_workers<
     R: Threads + Wait + Clock + Sync,
     F: Files,
@@ -209,6 +211,70 @@ pub fn serve_with_workers<
 ) -> Served
     requires settings { IsSettings (settings_of (options_of (asked request.now))) }
     requires some { IsTrue (needs_workers (Some (asked request.now))) }
+    requires few { request.now.workers ≤ 64 }
+    ensures served { let request = Some (asked request.now) in
+        IsServed request (known_of F.Files I.Source request files.old input.old)
+        (sinks_of O.Sink N.Sink out.old notes.old) (sinks_of O.Sink N.Sink out.new notes.new) result }
+    ensures reads { ReadsInOrder F.Files I.Source (Some (asked request.now)) files.old files.new input.old input.new result.answer }
+    ensures held { F.contents files.new ≡ F.contents files.old }
+{
+    match request.task {
+        Task::Batch => serve_batch(rt, alloc, request, files, input, out, gate),
+        _ => serve_guest_with_workers(rt, alloc, request, files, input, out, notes, gate),
+    }
+}
+
+/// Finds the jobs of a batch, runs them, and shows what came of each.
+fn serve_batch<
+    R: Threads + Wait + Clock + Sync,
+    F: Files,
+    I: Source,
+    O: Sink,
+    G: Gate + Sync,
+>(
+    rt: &R,
+    alloc: Global,
+    request: &Request<'_>,
+    files: &mut F,
+    input: &mut I,
+    out: &mut O,
+    gate: &G,
+) -> Served
+    requires task { request.now.task ≡ Batch }
+    requires settings { IsSettings (settings_of (options_of (asked request.now))) }
+    requires few { request.now.workers ≤ 64 }
+    ensures served { (s : Sinks) → let request = Some (asked request.now) in
+        IsServed request (known_of F.Files I.Source request files.old input.old) (with_out O.Sink out.old s) (with_out O.Sink out.new s) result }
+    ensures reads { ReadsInOrder F.Files I.Source (Some (asked request.now)) files.old files.new input.old input.new result.answer }
+    ensures held { F.contents files.new ≡ F.contents files.old }
+{
+    match find_jobs(alloc, request, files, input) {
+        Ok(jobs) => show_batch(rt, alloc, jobs, request.workers, out, gate),
+        Err(answer) => plain(answer),
+    }
+}
+
+/// Finds the guest of a request, and does its task by as many workers as it asks for.
+fn serve_guest_with_workers<
+    R: Threads + Wait + Clock + Sync,
+    F: Files,
+    I: Source,
+    O: Sink,
+    N: Sink,
+    G: Gate + Sync,
+>(
+    rt: &R,
+    alloc: Global,
+    request: &Request<'_>,
+    files: &mut F,
+    input: &mut I,
+    out: &mut O,
+    notes: &mut N,
+    gate: &G,
+) -> Served
+    requires settings { IsSettings (settings_of (options_of (asked request.now))) }
+    requires some { IsTrue (needs_workers (Some (asked request.now))) }
+    requires one { request.now.task ≢ Batch }
     requires few { request.now.workers ≤ 64 }
     ensures served { let request = Some (asked request.now) in
         IsServed request (known_of F.Files I.Source request files.old input.old)

@@ -1,14 +1,13 @@
 //! The top calls: words, image, input, the file of `--with`, the task, and the answer's line, in this order.
 
-ghost use Rattle.std.specs.Prelude.{◌≡◌, ◌<◌, IfOk, IfSome, IsSome, IsTrue, Some, map, option_map, string_bytes, vec_len, vec_capacity};
+ghost use Rattle.std.specs.Prelude.{◌≡◌, ◌≤◌, ◌+◌, IfOk, IfSome, Some, length, map, option_map, string_bytes, vec_len, vec_capacity};
 ghost use Rattle.guest_streams.specs.GuestStreams.{sinks_of};
 ghost use Rattle.program_words.specs.CommandLine.{asked, request_of};
 ghost use Rattle.fasttrack_program.specs.AnswerLine.{Concludes};
 ghost use Rattle.fasttrack_program.specs.Completeness.{NothingFailed, IsComplete};
-ghost use Rattle.fasttrack_program.specs.Promise.{promise_of};
 ghost use Rattle.fasttrack_program.specs.Reading.{ReadsInOrder, known_of};
 ghost use Rattle.fasttrack_program.specs.Serving.{IsServed};
-ghost use Rattle.fasttrack_program.specs.TopCall.{IsAnswered, IsRequest, NoneForWorkers, needs_workers, with_history};
+ghost use Rattle.fasttrack_program.specs.TopCall.{IsAnswered, IsRequest, NoneForWorkers, histories_in, most_histories, needs_workers, with_histories};
 
 use crate::answer::Answer;
 use crate::answer_line::conclude;
@@ -18,7 +17,7 @@ use crate::served::{Served, plain};
 use board_events::Entries;
 use guest_model::NoMemory;
 use host_io::{Files, Sink, Source};
-use program_words::{Request, WordsFault, read_words};
+use program_words::{Request, Task, WordsFault, read_words};
 use std::alloc::Global;
 use std::rt::Clock;
 use std::sync::Wait;
@@ -117,20 +116,20 @@ pub fn plain_main<F: Files, I: Source, O: Sink, N: Sink>(
     Some(end_call(alloc, served, notes, &mut told.histories))
 }
 
-/// The end of a call: the answer's line, and the history that goes with the answer.
+/// The end of a call: the answer's line, and the histories that go with the answer.
 fn end_call<N: Sink>(
     alloc: Global,
     served: Served,
     notes: &mut N,
     histories: &mut Vec<Entries>,
 ) -> Answer
-    requires room { IsSome served.history → vec_len histories.old < vec_capacity histories.old }
+    requires room { vec_len histories.old + length (histories_in served.told) ≤ vec_capacity histories.old }
     ensures line { Concludes (N.contents notes.old) (N.contents notes.new) (N.faults notes.old) (N.faults notes.new) served.answer result }
-    ensures history { histories.new.items ≡ with_history histories.old.items served.history result }
+    ensures histories { histories.new.items ≡ with_histories histories.old.items served.told result }
 {
-    let Served { answer, history } = served;
+    let Served { answer, told } = served;
     let answer = conclude(alloc, answer, notes);
-    hand_out(histories, history, answer);
+    hand_out(histories, told, answer);
     answer
 }
 
@@ -159,7 +158,7 @@ fn serve_words_with<
     ensures reads { ReadsInOrder F.Files I.Source (request_of (map string_bytes words.now)) files.old files.new input.old input.new result.answer }
     ensures held { F.contents files.new ≡ F.contents files.old }
     ensures items { histories.new.items ≡ histories.old.items }
-    ensures room { IsSome result.history → vec_len histories.new < vec_capacity histories.new }
+    ensures room { vec_len histories.new + length (histories_in result.told) ≤ vec_capacity histories.new }
 {
     match read_request(alloc, words, histories) {
         Ok(request) if asks_for_workers(&request) => {
@@ -188,7 +187,7 @@ fn serve_words<F: Files, I: Source, O: Sink, N: Sink>(
         ((files.new ≡ files.old) × (input.new ≡ input.old) × (out.new ≡ out.old) × (notes.new ≡ notes.old)) }
     ensures held { F.contents files.new ≡ F.contents files.old }
     ensures items { histories.new.items ≡ histories.old.items }
-    ensures room { IfSome result (λ served. IsSome served.history → vec_len histories.new < vec_capacity histories.new) }
+    ensures room { IfSome result (λ served. vec_len histories.new + length (histories_in served.told) ≤ vec_capacity histories.new) }
 {
     match read_request(alloc, words, histories) {
         Ok(request) if asks_for_workers(&request) => None,
@@ -197,7 +196,7 @@ fn serve_words<F: Files, I: Source, O: Sink, N: Sink>(
     }
 }
 
-/// The request of the words. There is room for the history that goes with its answer.
+/// The request of the words. There is room for the histories that go with its answer.
 ///
 /// # Errors
 /// `Usage` where the words are no call of the program, and `NoMemory`.
@@ -208,7 +207,7 @@ fn read_request<'a>(
 ) -> Result<Request<'a>, Answer>
     ensures request { IsRequest (request_of (map string_bytes words.now)) result }
     ensures items { histories.new.items ≡ histories.old.items }
-    ensures room { IfOk result (λ r. IsTrue (promise_of r.task).has_tracks → vec_len histories.new < vec_capacity histories.new) }
+    ensures room { IfOk result (λ r. vec_len histories.new + most_histories r.task ≤ vec_capacity histories.new) }
 {
     let request = match read_words(alloc, words) {
         Ok(request) => request,
@@ -221,9 +220,12 @@ fn read_request<'a>(
     }
 }
 
-/// Whether a request is one for tracks on more than one thread.
+/// Whether a request is one for tracks on more than one thread, as each batch is.
 fn asks_for_workers(request: &Request<'_>) -> bool
     ensures { result ≡ needs_workers (Some (asked request.now)) }
 {
-    has_tracks(request.task) && request.workers >= 1
+    match request.task {
+        Task::Batch => true,
+        task => has_tracks(task) && request.workers >= 1,
+    }
 }

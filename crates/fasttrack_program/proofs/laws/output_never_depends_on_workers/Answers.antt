@@ -5,7 +5,7 @@ use Rattle.speculation.specs.Record.{output_of}
 use Rattle.speculation.specs.Run.{marked}
 use Rattle.program_words.specs.declared.request.Task.{Task}
 use Rattle.program_words.specs.declared.request.Task.TheVariants as Tasks
-use Rattle.program_words.specs.declared.request.Task.TheVariants.{Alone, Run, Trial, Bench, Check, At, Pack}
+use Rattle.program_words.specs.declared.request.Task.TheVariants.{Alone, Run, Trial, Bench, Check, Batch, At, Pack}
 use Rattle.program_words.specs.CommandLine.{Request}
 use Rattle.fasttrack_program.specs.Plan.{Found, shows, plan_for}
 use Rattle.fasttrack_program.specs.Promise.{Given, alone_on, promise_of, texts_behind}
@@ -27,6 +27,7 @@ returns-clause-writes c = by_task
     by_task Trial g workers entries others h = refl
     by_task (Bench number) g workers entries others h = refl
     by_task Check g workers entries others h = refl
+    by_task Batch g workers entries others h = refl
     by_task At g workers entries others h = refl
     by_task Tasks.List g workers entries others h = refl
     by_task Pack g workers entries others h = refl
@@ -40,6 +41,7 @@ returns-clause-answers c = by_task
     by_task Trial g workers = refl
     by_task (Bench number) g workers = refl
     by_task Check g workers = refl
+    by_task Batch g workers = refl
     by_task At g workers = refl
     by_task Tasks.List g workers = refl
     by_task Pack g workers = refl
@@ -56,3 +58,4 @@ returns-clause-texts c = λ request found workers shown. by_task request found w
     by_task r found workers Run h = absurd (cc)
     by_task r found workers Trial h = absurd (cc)
     by_task r found workers (Bench number) h = absurd (cc)
+    by_task r found workers Batch h = absurd (cc)

@@ -5,7 +5,7 @@ use Rattle.fasttrack_program.specs.Reading.{Known, known_of}
 use Rattle.fasttrack_program.specs.Tracks.{given_of}
 use Rattle.fasttrack_program.proofs.OnKeeping.{late-kept}
 use Rattle.fasttrack_program.proofs.OnPlans.{served-guest, served-none}
-use Rattle.fasttrack_program.proofs.serve.serve_with_workers.Goals as goal
+use Rattle.fasttrack_program.proofs.serve.serve_guest_with_workers.Goals as goal
 
 pub returns-in-Ok-clause-served : goal.returns-in-Ok-clause-served
 returns-in-Ok-clause-served g c =
