@@ -1,11 +1,11 @@
 //! The file names of a list.
 
-ghost use Rattle.std.specs.Prelude.{◌≡◌};
-ghost use Rattle.job_listing.specs.Lists.{names_in, ReadsList};
+ghost use Rattle.std.specs.Prelude.{◌≡◌, ◌≢◌, ◌∷◌, ◌++◌, true, false, All, IfSome, IfNone};
+ghost use Rattle.job_listing.specs.Lines.{BeginsWithName, HasNoName};
+ghost use Rattle.job_listing.specs.Lists.{is_name, names_in, ReadsList};
 
-use basic_types::NoMemory;
 use memchr::memchr;
-use std::alloc::Global;
+use std::alloc::{AllocError, AllocFailed, Global};
 use std::str;
 
 /// The most bytes of a list.
@@ -24,6 +24,29 @@ pub enum ListFault {
     Form,
     /// The host's memory ran out.
     NoMemory,
+}
+
+impl From<AllocError> for ListFault {
+    ghost use Rattle.std.specs.Prelude.{◌≡◌};
+    ghost use Rattle.job_listing.specs.declared.names.ListFault.TheVariants as Faults;
+
+    ghost from_gives = { λ _ fault. fault ≡ Faults.NoMemory };
+
+    fn from(_refusal: AllocError) -> ListFault {
+        ListFault::NoMemory
+    }
+}
+
+/// The value that could not be stored is dropped.
+impl<T: Drop> From<AllocFailed<T>> for ListFault {
+    ghost use Rattle.std.specs.Prelude.{◌≡◌};
+    ghost use Rattle.job_listing.specs.declared.names.ListFault.TheVariants as Faults;
+
+    ghost from_gives = { λ _ fault. fault ≡ Faults.NoMemory };
+
+    fn from(_refusal: AllocFailed<T>) -> ListFault {
+        ListFault::NoMemory
+    }
 }
 
 /// The file names of a list: 1 to 16 lines, each ending with a line feed, each a name of 1 to 255 bytes in UTF-8; at most
@@ -60,13 +83,31 @@ fn first_name(list: &[u8]) -> Option<(&str, &[u8])>
     ensures name { IfSome result (λ cut. BeginsWithName list.now cut.0.now cut.1.now) }
     ensures none { IfNone result (HasNoName list.now) }
 {
+    let (line, behind) = cut_line(list)?;
+    let name = name_in(line)?;
+    Some((name, behind))
+}
+
+/// The bytes before the first line feed, and those behind it: none exactly where there is no line feed.
+fn cut_line(list: &[u8]) -> Option<(&[u8], &[u8])>
+    ensures parts { IfSome result (λ cut. list.now ≡ cut.0.now ++ (10 ∷ cut.1.now)) }
+    ensures first { IfSome result (λ cut. All (λ byte. byte ≢ 10) cut.0.now) }
+    ensures none { IfNone result (All (λ byte. byte ≢ 10) list.now) }
+{
     let end = memchr(b'\n', list)?;
-    let line = &list[..end];
+    Some((&list[..end], &list[end + 1..]))
+}
+
+/// The name that a line is.
+fn name_in(line: &[u8]) -> Option<&str>
+    ensures name { IfSome result (λ name. (name.now ≡ line.now) × (is_name line.now ≡ true)) }
+    ensures none { IfNone result (is_name line.now ≡ false) }
+{
     if line.is_empty() || line.len() > MOST_NAME {
         return None;
     }
     match str::from_utf8(line) {
-        Ok(name) => Some((name, &list[end + 1..])),
+        Ok(name) => Some(name),
         Err(_) => None,
     }
 }

@@ -1,0 +1,3 @@
+pub mod OnLists
+pub mod OnReading
+pub mod OnReports
