@@ -5,6 +5,7 @@ pub mod OnImages
 pub mod OnJobs
 pub mod OnKeeping
 pub mod OnLines
+pub mod OnOwnEnds
 pub mod OnPlans
 pub mod OnReading
 pub mod OnReports
@@ -13,3 +14,4 @@ pub mod OnShowing
 pub mod OnSubjects
 pub mod OnTelling
 pub mod OnTexts
+pub mod OnTold

@@ -2,7 +2,8 @@
 use Rattle.std.proofs.Common.{◌≡◌, ℕ, zero, suc, ◌+◌, ◌<◌, ◌≤◌, true, false, List, [], ◌∷◌, ◌++◌, length, take, get_or, map, Option, Some, None, Result, Ok, Err, ◌⊎◌, inl, inr, refl, sym, ap, ◌∙◌, subst, append-nil, arith}
 use Rattle.std.specs.Prelude.{All, not, if◌then◌else◌}
 use Rattle.std.specs.List.{AllZip, filter_map}
-use Rattle.std.proofs.lemmas.List.{map-append, length-map, take_more}
+use Rattle.std.proofs.Math.ListN.{length-map}
+use Rattle.std.proofs.lemmas.List.{take_more}
 use Rattle.std.proofs.lemmas.List.Elements.{All-nil, All-cons, filter_map-append}
 use Rattle.std.proofs.lemmas.Slice.Zip.{all_zipped_more}
 use Rattle.speculation.specs.declared.history.Settings.{Settings}
@@ -92,7 +93,7 @@ few-images R (Ok i ∷ js) [] h = absurd h
 few-images R (Ok i ∷ js) (v ∷ vs) h = (let less = few-images R js vs h.1 in omega (arith, less))
 few-images R (Err a ∷ js) vs h = (let less = few-images R js vs h in omega (arith, less))
 
-named-length : {A : Type 0} (R : A → List ℕ → Type 0) (names : List A) (images : List (List ℕ)) → AllZip R names images → length images ≡ length names
+pub named-length : {A : Type 0} (R : A → List ℕ → Type 0) (names : List A) (images : List (List ℕ)) → AllZip R names images → length images ≡ length names
 named-length R [] [] h = refl
 named-length R [] (x ∷ xs) h = absurd h
 named-length R (n ∷ ns) [] h = absurd h
@@ -103,7 +104,7 @@ pub few-boards : (settings : Settings) (input : List ℕ) (named : List ℕ → 
 few-boards settings input named names jobs h =
     let less = few-images (IsBoardOf settings input) (map image_in h.images) jobs.boards.items h.stands.boards_are in
     let same = named-length (λ name bytes. Agrees (named name) bytes) names h.images h.are_named in
-    let mapped = length-map image_in h.images in
+    let mapped = length-map h.images image_in in
     omega (arith, less, same, mapped)
 
 -- ---- reports
@@ -143,7 +144,7 @@ served-no_jobs r known a s (inr h) = served-plan (Some r) known h.0 (Refused a) 
 
 -- ---- what is found for a request
 
-named-by : (file : List ℕ) (names : List (List ℕ)) → list_in file ≡ Ok names → names_in file ≡ Some names
+pub named-by : (file : List ℕ) (names : List (List ℕ)) → list_in file ≡ Ok names → names_in file ≡ Some names
 named-by file names e = by (names_in file) refl
   where
     by : (o : Option (List (List ℕ))) → names_in file ≡ o → names_in file ≡ Some names

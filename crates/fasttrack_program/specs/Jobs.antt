@@ -1,9 +1,20 @@
 -- The jobs of a batch: what each is done on, and what is reported of it
-use Rattle.std.specs.Prelude.{◌≡◌, ℕ, List, [], Option, Some, None, Result, Ok, Err}
+use Rattle.std.specs.Prelude.{◌≡◌, ℕ, List, [], ◌++◌, Option, Some, None, Result, Ok, Err}
 use Rattle.std.specs.List.{AllZip, filter_map}
 use Rattle.speculation.specs.declared.history.Entry.{Entry}
 use Rattle.speculation.specs.declared.history.Settings.{Settings}
-use Rattle.guest_model.specs.Image.{Image}
+use Rattle.speculation.specs.Ledger.{ledger}
+use Rattle.speculation.specs.Record.{Ran, output_of}
+use Rattle.speculation.specs.Run.{Mark, stream_bytes}
+use Rattle.guest_model.specs.Image.{Image, program_alone, start_of}
+use Rattle.guest_model.specs.MachineState.{MachineState}
+use Rattle.guest_model.specs.Rv32.{rv32}
+use Rattle.guest_model.specs.declared.end.End.{End}
+use Rattle.guest_streams.specs.GuestStreams.{end_of}
+use Rattle.region_ledger.specs.Ledger.{ledger_rows}
+use Rattle.region_ledger.specs.declared.finished.Finished.{Finished}
+use Rattle.track_board.specs.declared.outcome.Outcome.{Outcome}
+use Rattle.worker_gate.specs.Histories.{IsWorked}
 use Rattle.elf32_loader.specs.LoadedImage.{image_of_loaded}
 use Rattle.track_board.specs.Value.{Posted}
 use Rattle.job_batch.specs.Ends.{IsEndOf}
@@ -68,3 +79,29 @@ history_in (Reports.Ran e) = history_of_end e.outcome
 -- those of all jobs that are done, in the order of the jobs
 abbrev pub histories_of_jobs : List JobReport → List (List Entry)
 histories_of_jobs reports = filter_map history_in reports
+
+-- ---- the same of the program of an image
+
+-- the program of an image of this batch, alone within the budget
+abbrev pub job_alone : Batch → Image → Ran MachineState End
+job_alone b i = program_alone i b.input b.settings.budget
+
+-- The bytes of a job that is done are all that its program alone writes; its end, count and rows are those of the program; and
+-- its entries are a legal history with a finish, whose loans went to seats up to the number of workers.
+pub record IsOwnEnd (b : Batch) (i : Image) (e : JobEnd) (o : Outcome) : Type 0 where
+  pub on_out : e.out ≡ stream_bytes 1 (output_of (job_alone b i))
+  pub on_notes : e.notes ≡ stream_bytes 2 (output_of (job_alone b i))
+  pub finished : Finished
+  pub finish : o.finished ≡ Some finished
+  pub end : finished.end ≡ end_of (job_alone b i).end
+  pub count : finished.count ≡ (job_alone b i).count
+  pub rows : ledger_rows o.rows ≡ ledger (rv32 b.input) (start_of i) b.settings.budget
+  pub history : IsWorked b.workers (rv32 b.input) b.settings (start_of i) o.entries
+
+-- the bytes of any job are a beginning of what its program alone writes
+pub record IsOwnPart (b : Batch) (i : Image) (e : JobEnd) : Type 0 where
+  pub got : List Mark
+  pub rest : List Mark
+  pub parts : got ++ rest ≡ output_of (job_alone b i)
+  pub on_out : e.out ≡ stream_bytes 1 got
+  pub on_notes : e.notes ≡ stream_bytes 2 got

@@ -1,6 +1,7 @@
 //! Laws about definitions, each the contract of a function that does nothing.
 
 ghost use Rattle.std.specs.Prelude.{◌≡◌, ◌≤◌, ◌⊎◌, ℕ, false, IsTrue, if◌then◌else◌, List, [], ◌++◌, length, map, Ok, Err, Option, Some};
+ghost use Rattle.std.specs.List.{AllZip};
 ghost use Rattle.host_io.specs.Faults.{Rose};
 ghost use Rattle.guest_model.specs.Image.{Image, image};
 ghost use Rattle.guest_model.specs.declared.difference.Difference.{Difference};
@@ -20,8 +21,13 @@ ghost use Rattle.speculation.specs.declared.history.Settings.{Settings};
 ghost use Rattle.guest_model.specs.Rv32.{rv32};
 ghost use Rattle.track_board.specs.Value.{GuestCore};
 ghost use Rattle.serial_run.specs.Quiet.{IsQuiet};
-ghost use Rattle.fasttrack_program.specs.Completeness.{DoesAll, ShowsAll, IsComplete};
-ghost use Rattle.fasttrack_program.specs.Plan.{Does, Found, bench_image, image_limit, input_limit, journal_limit, options_of, plan, runs_file, shows};
+ghost use Rattle.job_batch.specs.declared.ends.JobEnd.{JobEnd};
+ghost use Rattle.job_batch.specs.declared.ends.JobOutcome.TheVariants.{Done};
+ghost use Rattle.job_listing.specs.Lists.{names_in};
+ghost use Rattle.track_board.specs.declared.outcome.Outcome.{Outcome};
+ghost use Rattle.fasttrack_program.specs.Completeness.{DoesAll, ShowsAll, TellsAll, IsComplete};
+ghost use Rattle.fasttrack_program.specs.Jobs.{Batch, IsEndFor, IsOwnEnd, IsOwnPart};
+ghost use Rattle.fasttrack_program.specs.Plan.{Does, Found, batch_of, bench_image, image_limit, input_limit, journal_limit, options_of, plan, runs_file, shows};
 ghost use Rattle.fasttrack_program.specs.Promise.{Given, promise_of, settings_of};
 ghost use Rattle.fasttrack_program.specs.Reading.{Known};
 ghost use Rattle.fasttrack_program.specs.Showing.{Showing, OfJournal, OfStates, OfWords, OfText, Tells};
@@ -75,6 +81,23 @@ pub fn good_texts_are_shown()
         → request.task ≡ Tasks.List → length file ≤ image_limit → image file ≡ Ok i → (answer ≡ Answer.NoMemory) ⊎ ShowsAll (OfWords i) old new answer }
     ensures pack { (request : Request) (known : Known) (file : List ℕ) → known.file ≡ Some file → (old new : Sinks) (answer : Answer) → IsComplete (Some request) known old new answer
         → request.task ≡ Pack → (answer ≡ Answer.NoMemory) ⊎ ShowsAll (OfText file) old new answer }
+{}
+
+/// The same of a batch: each job is reported, or memory ran out, where the list is one, its files can all be read, and the
+/// input is within its limit, if it is wanted. A file that is no image stops no other job.
+pub fn good_batches_are_shown()
+    ensures { (request : Request) (known : Known) (list input : List ℕ) (names images : List (List ℕ)) → known.file ≡ Some list → names_in list ≡ Some names
+        → (request.no_input ≡ false → (known.input ≡ Some input) × (length input ≤ input_limit)) → AllZip (λ name bytes. known.named name ≡ Some bytes) names images
+        → (old new : Sinks) (answer : Answer) → IsComplete (Some request) known old new answer → request.task ≡ Tasks.Batch
+        → (answer ≡ Answer.NoMemory) ⊎ TellsAll (batch_of request images (if request.no_input then [] else input)) old new answer }
+{}
+
+/// What is reported of a job is of the program of its own image alone, whatever the other jobs are: always a beginning of what
+/// it writes; and where the job is done all of it, with the program's own end and ledger, and a legal history of it that has a
+/// finish.
+pub fn jobs_have_their_own_ends()
+    ensures done { (b : Batch) (i : Image) (e : JobEnd) (o : Outcome) → IsEndFor b i e → e.outcome ≡ Done o → IsOwnEnd b i e o }
+    ensures part { (b : Batch) (i : Image) (e : JobEnd) → IsEndFor b i e → IsOwnPart b i e }
 {}
 
 /// What was read has a text or a refusal, and never both. So a call that is complete shows the text of whatever is not refused.
