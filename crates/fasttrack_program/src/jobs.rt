@@ -147,7 +147,7 @@ fn read_job<F: Files>(
         Ok(loaded) => add_board(alloc, &loaded, input, settings, jobs),
         Err(Answer::ImageTooLong) => add_start(JobStart::TooLong, jobs),
         Err(Answer::BadImage(fault)) => add_start(JobStart::BadImage(fault), jobs),
-        Err(answer) => return Err(answer),
+        Err(unread) => return Err(unread),
     };
     match added {
         Ok(()) => Ok(()),

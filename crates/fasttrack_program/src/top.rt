@@ -27,27 +27,33 @@ use worker_gate::Gate;
 /// Does all that the program does, and answers how it ended. `words` are those behind the program's own name. Each worker
 /// passes the gate before each turn and each slice; a gate that waits changes nothing of what the call promises.
 ///
-/// What is promised holds for every order in which threads get their turns, if the call returns. Without workers it is
-/// `plain_main`, which returns.
+/// What is promised holds for every order in which threads get their turns, if the call returns. For words that ask for no
+/// workers, and for no batch, it is `plain_main`, which returns.
 ///
 /// - **Answer and output** (`answered`). The call keeps the plan that the words, the files and the input ask for:
 ///   `specs/Promise.antt` says of each task on a guest what it writes on `out` and `notes`, and what it answers once all of
-///   that is written; `specs/Showing.antt` says of each other task the text that it shows, or why what was read is refused.
-///   What the two got is always a beginning of it. WriteFault comes only where one of them failed, and then at a byte of its
-///   own; NoMemory anywhere. Behind it `notes` get one line for every answer but Exited and Shown. `told` gets the history of
-///   a task with tracks, exactly where it was done whole and its answer's line was not lost: without workers the serial
-///   history, with workers a legal one that has a finish, whose loans went to seats up to their number.
+///   that is written; `specs/Jobs.antt` says of a batch what is reported of each of its jobs; `specs/Showing.antt` says of
+///   each other task the text that it shows, or why what was read is refused. What the two got is always a beginning of it.
+///   WriteFault comes only where one of them failed, and then at a byte of its own; NoMemory anywhere. Behind it `notes` get
+///   one line for every answer but Exited and Shown. `told` gets the history of a task with tracks, exactly where it was done
+///   whole and its answer's line was not lost: without workers the serial history, with workers a legal one that has a finish,
+///   whose loans went to seats up to their number. Of a batch that was shown whole it gets one for each job that is done, in
+///   their order.
 /// - **Completeness** (`complete`). Where no count of faults rose, all of the plan was done, or memory ran out. With
-///   `laws::good_calls_are_done` and `laws::good_texts_are_shown`: accepted words, an image without a fault and an input
-///   within its limit give the program's own end with all of its output, or Shown with the whole report or text.
+///   `laws::good_calls_are_done`, `laws::good_batches_are_shown` and `laws::good_texts_are_shown`: accepted words, an image
+///   without a fault and an input within its limit give the program's own end with all of its output, or Shown with the whole
+///   report or text.
 /// - **Order and refusals** (`answered`, `reads`). The first that refuses decides: the words (Usage); whether the image
-///   file can be read (ReadFault), its length, at most 33,554,432 bytes (ImageTooLong), and its first fault (BadImage);
-///   unless it is to be left unread, whether the input can be read (ReadFault) and its length, at most 16,777,216 bytes
-///   (InputTooLong); whether the file of `--with` can be read (ReadFault), the length of a journal, at most 33,554,432 bytes
-///   (JournalTooLong), its first bad line (BadJournal), and that of a file of counts (BadCounts). Then the task is done. Of
-///   the text that is packed, IMAGE names the file: its first bad line and place (BadText) stand behind its read.
+///   file can be read (ReadFault), its length, at most 33,554,432 bytes (ImageTooLong), and its first fault (BadImage), or,
+///   for a batch, whether the list can be read (ReadFault) and is of its form (BadList); unless it is to be left unread,
+///   whether the input can be read (ReadFault) and its length, at most 16,777,216 bytes (InputTooLong); whether the file of
+///   `--with` can be read (ReadFault), the length of a journal, at most 33,554,432 bytes (JournalTooLong), its first bad line
+///   (BadJournal), and that of a file of counts (BadCounts), or, for a batch, whether each file of the list can be read
+///   (ReadFault). Then the task is done. Of the text that is packed, IMAGE names the file: its first bad line and place
+///   (BadText) stand behind its read.
 /// - **Reads** (`reads`). Files and input are left alone where the task reads none of them. The input is read behind an image
-///   without a fault, the file of `--with` behind both. A read that fails is counted, and ends the call.
+///   without a fault, or a list, and the file of `--with`, or those that a list names, behind both. A read that fails is
+///   counted, and ends the call.
 /// - **Files** (`held`). What `files` hold is as before.
 pub fn fasttrack_main<
     R: Threads + Wait + Clock + Sync,
@@ -83,11 +89,11 @@ pub fn fasttrack_main<
     end_call(alloc, served, notes, &mut told.histories)
 }
 
-/// Does the same on one thread, for words that ask for no workers. It never waits, and it returns.
+/// Does the same on one thread, for words that ask for no workers, and for no batch. It never waits, and it returns.
 ///
 /// The clauses are those of [`fasttrack_main`], with one more.
 ///
-/// - **Workers** (`workers`). None exactly where the words ask for workers, unless memory ran out; nothing was read,
+/// - **Workers** (`workers`). None exactly where the words ask for workers or for a batch, unless memory ran out; nothing was read,
 ///   written or told then.
 pub fn plain_main<F: Files, I: Source, O: Sink, N: Sink>(
     alloc: Global,
