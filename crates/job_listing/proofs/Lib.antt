@@ -1,3 +1,4 @@
 pub mod OnLists
 pub mod OnReading
 pub mod OnReports
+pub mod OnEnds

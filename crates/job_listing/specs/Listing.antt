@@ -59,11 +59,15 @@ abbrev pub outcome_line : JobOutcome → List ℕ
 outcome_line (Done o) = finish_line o.finished
 outcome_line NoMemory = codes "end no memory" ++ 10 ∷ []
 
--- a job that ran: the sizes, the bytes of stream 1 and a line feed, those of stream 2 and a line feed, and the end
+-- the bytes of a stream, and a line feed
+abbrev pub stream_text : List ℕ → List ℕ
+stream_text bytes = bytes ++ 10 ∷ []
+
+-- a job that ran: the sizes, the bytes of stream 1, those of stream 2, and the end
 abbrev pub ran_text : ℕ → JobEnd → List ℕ
 ran_text number end =
     sizes_line number (length end.out) (length end.notes)
-    ++ (end.out ++ (10 ∷ (end.notes ++ (10 ∷ outcome_line end.outcome))))
+    ++ (stream_text end.out ++ (stream_text end.notes ++ outcome_line end.outcome))
 
 abbrev pub job_text : ℕ → JobReport → List ℕ
 job_text number reports.TooLong = of_job number (codes " image too long" ++ 10 ∷ [])

@@ -1,12 +1,12 @@
 //! The text of a batch on one sink.
 
-ghost use Rattle.std.specs.Prelude.{◌≡◌, ◌∷◌, ◌++◌, [], All, IfOk, codes, string_bytes};
+ghost use Rattle.std.specs.Prelude.{◌≡◌, ◌∷◌, ◌++◌, [], All, IfOk, codes, length, string_bytes};
 ghost use Rattle.fault_text.specs.FaultTexts.{fault_text};
 ghost use Rattle.sink_text.specs.TextOnSink.{WritesOn};
-ghost use Rattle.job_listing.specs.Listing.{HasEnd, HasFinish, jobs_text, job_text, of_job, outcome_line, ran_text, sizes_line};
+ghost use Rattle.job_listing.specs.Listing.{HasEnd, HasFinish, jobs_text, job_text, of_job, outcome_line, ran_text, sizes_line, stream_text};
 
 use crate::report::JobReport;
-use basic_types::NoMemory;
+use basic_types::{Bytes, NoMemory};
 use elf32_loader::ImageFault;
 use fault_text::FaultText;
 use guest_streams::OutputFault;
@@ -63,18 +63,17 @@ fn write_ran<O: Sink>(
     requires { HasFinish end.now.outcome }
     ensures { WritesOn O.Sink out.old out.new (ran_text number end.now) result }
 {
-    let sizes = sizes_text(alloc, number, end.out.len(), end.notes.len());
-    write_made(sizes, out)?;
-    write_stream(end.out.as_slice(), out)?;
-    write_stream(end.notes.as_slice(), out)?;
+    write_made(sizes_text(alloc, number, end), out)?;
+    write_stream(&end.out, out)?;
+    write_stream(&end.notes, out)?;
     write_made(outcome_text(alloc, &end.outcome), out)
 }
 
 /// Writes the bytes of a stream and a line feed.
-fn write_stream<O: Sink>(bytes: &[u8], out: &mut O) -> Result<(), OutputFault>
-    ensures { WritesOn O.Sink out.old out.new (bytes.now ++ 10 ∷ []) result }
+fn write_stream<O: Sink>(bytes: &Bytes, out: &mut O) -> Result<(), OutputFault>
+    ensures { WritesOn O.Sink out.old out.new (stream_text bytes.now) result }
 {
-    write_bytes(bytes, out)?;
+    write_bytes(bytes.as_slice(), out)?;
     write_text("\n", out)
 }
 
@@ -94,14 +93,11 @@ fn bad_text(alloc: Global, number: usize, fault: ImageFault) -> Result<String, N
 }
 
 /// The line of a job that ran, with the numbers of bytes of its two streams.
-fn sizes_text(
-    alloc: Global,
-    number: usize,
-    out: usize,
-    notes: usize,
-) -> Result<String, NoMemory>
-    ensures { IfOk result (λ text. string_bytes text ≡ sizes_line number out notes) }
+fn sizes_text(alloc: Global, number: usize, end: &JobEnd) -> Result<String, NoMemory>
+    ensures { IfOk result (λ text. string_bytes text ≡ sizes_line number (length end.now.out) (length end.now.notes)) }
 {
+    let out = end.out.len();
+    let notes = end.notes.len();
     Ok(format!(in alloc; "job {number} out {out} notes {notes}\n")?)
 }
 
