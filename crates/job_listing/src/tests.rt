@@ -1,7 +1,7 @@
 //! What no clause says: lists read and refused, the text of worked jobs, a sink that fails, and the reports of a batch.
 
-ghost use Rattle.std.specs.Prelude.{◌≡◌, All, IfOk, length};
-ghost use Rattle.job_batch.specs.Ends.{AreEnds, IsFresh};
+ghost use Rattle.std.specs.Prelude.{◌≤◌, All, IfOk, length};
+ghost use Rattle.job_batch.specs.Ends.{IsFresh};
 ghost use Rattle.job_listing.specs.Listing.{HasEnd, HasFinish};
 
 use crate::{JobReport, JobStart, ListFault, MOST_NAME, MOST_NAMES, join_reports, read_list, write_jobs};
@@ -15,6 +15,7 @@ use job_batch::{JobEnd, JobOutcome, Jobs, batch};
 use region_ledger::{Finished, Rows};
 use rv32_asm::small_image;
 use std::alloc::Global;
+use std::process::Abort;
 use std::sync::Arc;
 use std::test::Fail;
 use track_board::{Board, Outcome, Settings};
@@ -179,19 +180,29 @@ const OTHERS: &[u8] = b"job 0 image too long\n\
     job 3 out 2 notes 0\n\x00\xFF\n\nend spent\n\
     job 4 out 4 notes 1\nsome\nn\nend no memory\n";
 
+/// This is written of these jobs.
+fn assert_writes(
+    rt: &impl Abort,
+    alloc: Global,
+    reports: &[JobReport],
+    expected: &[u8],
+) -> Result<(), Fail>
+    requires { All HasEnd reports.now }
+{
+    let mut out = MemorySink::new(alloc, 256, Vec::new(alloc))?;
+    write_jobs(alloc, reports, &mut out)?;
+    assert_eq!(rt; out.written(), expected);
+    Ok(())
+}
+
 #[test]
 fn writes_worked_jobs(rt: HostRuntime) -> Result<(), Fail> {
     let alloc = rt.alloc();
-    for (reports, expected) in [
-        (worked_jobs(alloc)?, WORKED.as_bytes()),
-        (other_jobs(alloc)?, OTHERS),
-        (Vec::new(alloc), b"".as_slice()),
-    ] {
-        let mut out = MemorySink::new(alloc, 256, Vec::new(alloc))?;
-        write_jobs(alloc, reports.as_slice(), &mut out)?;
-        assert_eq!(rt; out.written(), expected);
-    }
-    Ok(())
+    let worked = worked_jobs(alloc)?;
+    assert_writes(&rt, alloc, worked.as_slice(), WORKED.as_bytes())?;
+    let others = other_jobs(alloc)?;
+    assert_writes(&rt, alloc, others.as_slice(), OTHERS)?;
+    assert_writes(&rt, alloc, &[], b"")
 }
 
 /// The sink fails at one of the ten calls, or has no room for all bytes.
@@ -216,7 +227,8 @@ fn stops_where_the_sink_fails(rt: HostRuntime) -> Result<(), Fail> {
     for (failing, room, answer, written) in table {
         let mut out = MemorySink::new(alloc, room, vec![in alloc; failing]?)?;
         assert_eq!(rt; write_jobs(alloc, reports.as_slice(), &mut out), answer);
-        assert_eq!(rt; out.written(), &WORKED.as_bytes()[..written]);
+        assert_eq!(rt; out.written().len(), written);
+        assert!(rt; WORKED.as_bytes().starts_with(out.written()));
     }
     Ok(())
 }
@@ -251,6 +263,7 @@ const JOINED: &str = "job 0 out 0 notes 0\n\n\nend exit 55\n\
 
 /// A board of the program of these words.
 fn board_of(alloc: Global, words: &[u32]) -> Result<Board, Fail>
+    requires { length words.now ≤ 16 }
     ensures { IfOk result IsFresh }
 {
     let image = small_image(alloc, words)?;
@@ -276,8 +289,5 @@ fn joins_the_ends_of_a_batch(rt: HostRuntime) -> Result<(), Fail> {
         JobStart::Runs,
     ];
     let reports = join_reports(alloc, &starts, ends)?;
-    let mut out = MemorySink::new(alloc, 256, Vec::new(alloc))?;
-    write_jobs(alloc, reports.as_slice(), &mut out)?;
-    assert_eq!(rt; out.written(), JOINED.as_bytes());
-    Ok(())
+    assert_writes(&rt, alloc, reports.as_slice(), JOINED.as_bytes())
 }
