@@ -167,14 +167,14 @@ module _ (old mid new : Sinks) (result : Answer) (out : new.out ≡ mid.out) (ou
     followed-batch : (b : Batch) → KeepsBatch b old mid v → (result ≡ NoMemory) ⊎ TellsAll b old new result
     followed-batch b k = by k.kept
       where
-        by : IsKept (marked 1 (jobs_text k.reports)) (record { answer = Shown; told = Each k.reports }) old mid v → (result ≡ NoMemory) ⊎ TellsAll b old new result
+        by : IsKept (marked 1 (jobs_text k.reports.items)) (record { answer = Shown; told = Each k.reports }) old mid v → (result ≡ NoMemory) ⊎ TellsAll b old new result
         by (inl h) =
             or-else (λ w. record {
-              reports = k.reports;
+              reports = k.reports.items;
               are_reports = k.are_reports;
               answers = w.same;
-              gets = subst (Gets old new) (append-nil (marked 1 (jobs_text k.reports)))
-                  (subst (λ a. Gets old new (marked 1 (jobs_text k.reports) ++ marked 2 (line_text a))) w.same (with-line (marked 1 (jobs_text k.reports)) Shown h.1 w));
+              gets = subst (Gets old new) (append-nil (marked 1 (jobs_text k.reports.items)))
+                  (subst (λ a. Gets old new (marked 1 (jobs_text k.reports.items) ++ marked 2 (line_text a))) w.same (with-line (marked 1 (jobs_text k.reports.items)) Shown h.1 w));
             })
             (concluded-whole old.notes_faults mid.notes new.notes mid.notes_faults new.notes_faults Shown result notes_calm h.1.calm.on_notes (line-of (record { answer = Shown; told = Each k.reports }) h.0))
         by (inr (inl h)) = absurd (not-failed v.answer h.1.rest line h.1.fails)

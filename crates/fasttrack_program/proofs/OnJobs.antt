@@ -1,11 +1,13 @@
 -- The jobs of a batch: from the files that a list names to what is reported of each
-use Rattle.std.proofs.Common.{◌≡◌, ℕ, zero, suc, ◌+◌, ◌<◌, ◌≤◌, true, false, List, [], ◌∷◌, ◌++◌, length, take, get_or, map, Option, Some, None, Result, Ok, Err, ◌⊎◌, inl, inr, refl, sym, ap, ◌∙◌, subst, append-nil, arith}
-use Rattle.std.specs.Prelude.{All, not, if◌then◌else◌}
-use Rattle.std.specs.List.{AllZip, filter_map}
+use Rattle.std.proofs.Common.{◌≡◌, ℕ, zero, suc, ◌+◌, ◌<◌, ◌≤◌, true, false, List, [], ◌∷◌, ◌++◌, length, take, get_or, map, Option, Some, None, Result, Ok, Err, ◌⊎◌, inl, inr, refl, sym, ap, ◌∙◌, subst, append-nil, append_assoc, arith}
+use Rattle.std.specs.Global.{Global}
+use Rattle.std.specs.Prelude.{All, IfOk, IfErr, OnOk, String, string_bytes, not, if◌then◌else◌}
+use Rattle.std.specs.List.{AllZip, cons_option, filter_map}
 use Rattle.std.proofs.Math.ListN.{length-map}
-use Rattle.std.proofs.lemmas.List.{take_more}
+use Rattle.std.proofs.lemmas.List.{take_more, map-append, get_or-map}
 use Rattle.std.proofs.lemmas.List.Elements.{All-nil, All-cons, filter_map-append}
 use Rattle.std.proofs.lemmas.Slice.Zip.{all_zipped_more}
+use Rattle.speculation.specs.declared.history.Entry.{Entry}
 use Rattle.speculation.specs.declared.history.Settings.{Settings}
 use Rattle.guest_model.specs.Image.{Image}
 use Rattle.guest_streams.specs.GuestStreams.{Sinks}
@@ -14,6 +16,7 @@ use Rattle.job_batch.specs.Ends.{IsFresh, IsEndOf, AreEnds}
 use Rattle.job_batch.specs.declared.ends.JobEnd.{JobEnd}
 use Rattle.job_listing.specs.Lists.{names_in}
 use Rattle.job_listing.specs.Listing.{merged, runs_in}
+use Rattle.job_listing.proofs.OnLists.{names-few}
 use Rattle.job_listing.specs.declared.report.JobReport.{JobReport}
 use Rattle.job_listing.specs.declared.report.JobReport.TheVariants as Reports
 use Rattle.job_listing.specs.declared.report.JobStart.{JobStart}
@@ -21,13 +24,15 @@ use Rattle.job_listing.specs.declared.report.JobStart.TheVariants as Starts
 use Rattle.program_words.specs.CommandLine.{Request}
 use Rattle.program_words.specs.declared.request.Task.TheVariants as Tasks
 use Rattle.fasttrack_program.specs.declared.answer.Answer.{Answer}
+use Rattle.fasttrack_program.specs.declared.answer.Answer.TheVariants.{NoMemory}
 use Rattle.fasttrack_program.specs.declared.jobs.FoundJobs.{FoundJobs}
 use Rattle.fasttrack_program.specs.declared.served.Served.{Served}
-use Rattle.fasttrack_program.specs.Finding.{IsStartOf, Stands, StandsFor, FindsJobs, images_in, ok_image, start_refusal}
-use Rattle.fasttrack_program.specs.Jobs.{Batch, IsBoardOf, IsReportOf, AreReports}
+use Rattle.fasttrack_program.specs.Finding.{AddsJob, ReadsJobs, IsStartOf, Stands, StandsFor, FindsJobs, images_in, ok_image, start_refusal}
+use Rattle.fasttrack_program.specs.Jobs.{Batch, IsBoardOf, IsReportOf, AreReports, history_in, histories_of_jobs}
 use Rattle.fasttrack_program.specs.Plan.{Found, Plan, Refused, Runs, after, batch_of, image_in, input_in, job_settings, list_in, plan, unless_none}
-use Rattle.fasttrack_program.specs.Reading.{Agrees, Known, AgreesWith, IsUnread, Reads}
+use Rattle.fasttrack_program.specs.Reading.{Agrees, Known, AgreesWith, IsUnread, IsRefusedEarly, Reads}
 use Rattle.fasttrack_program.specs.Serving.{plainly, IsRun, IsServed}
+use Rattle.fasttrack_program.proofs.OnReading.{late-unread}
 use Rattle.fasttrack_program.proofs.OnPlans.{some_images, some_named, some_bytes, some_agree, found_file, agrees_file, found_both, agrees_both, plan-by, served-plan, served-unread}
 
 -- ---- jobs that are found one after another
@@ -49,15 +54,54 @@ module _ (settings : Settings) (input : List ℕ) (jobs : List (Result Image Ans
         (subst (AllZip (IsBoardOf settings input) (images_in jobs)) (sym same) h.boards_are);
   }
 
--- none yet
-pub stands-none : (settings : Settings) (input : List ℕ) → Stands settings input [] [] []
-stands-none settings input = record { starts_are = tt; boards_are = tt }
+-- the file of one name was read, and its job was added or memory ran out
+module _ (settings : Settings) (input : List ℕ) (known : Option (List ℕ)) (bytes : List ℕ) (agrees : Agrees known bytes) (old new : FoundJobs) where
+  pub adds-run : (i : Image) (v : Posted) → image_in bytes ≡ Ok i → IsBoardOf settings input i v → (r : Result (Unit {0}) Answer) → OnOk r (new.starts.items ≡ old.starts.items ++ Starts.Runs ∷ []) → OnOk r (new.boards.items ≡ old.boards.items ++ v ∷ [])
+      → IfErr r (λ answer. answer ≡ NoMemory) → AddsJob settings input known old new r
+  adds-run i v loads board (Ok _) more others none =
+      (bytes, agrees, λ jobs h. subst (λ j. Stands settings input (jobs ++ j ∷ []) new.starts.items new.boards.items) (sym loads)
+          (stands-run settings input jobs old.starts.items new.starts.items old.boards.items new.boards.items h i v board more others))
+  adds-run i v loads board (Err a) more others none = inr none
+
+  pub adds-refused : (a : Answer) (start : JobStart) → image_in bytes ≡ Err a → start_refusal start ≡ Some a → (r : Result (Unit {0}) Answer) → OnOk r (new.starts.items ≡ old.starts.items ++ start ∷ []) → new.boards.items ≡ old.boards.items
+      → IfErr r (λ answer. answer ≡ NoMemory) → AddsJob settings input known old new r
+  adds-refused a start refused names (Ok _) more same none =
+      (bytes, agrees, λ jobs h. subst (λ j. Stands settings input (jobs ++ j ∷ []) new.starts.items new.boards.items) (sym refused)
+          (stands-refused settings input jobs old.starts.items new.starts.items old.boards.items new.boards.items h a start names more same))
+  adds-refused a start refused names (Err b) more same none = inr none
 
 -- the file of one name more was read
-pub named-more : {A : Type 0} (R : A → List ℕ → Type 0) (names : List A) (k : ℕ) (name : A) (images : List (List ℕ)) (bytes : List ℕ) → k < length names → AllZip R (take k names) images → R (get_or names k name) bytes
+named-more : {A : Type 0} (R : A → List ℕ → Type 0) (names : List A) (k : ℕ) (d : A) (images : List (List ℕ)) (bytes : List ℕ) → k < length names → AllZip R (take k names) images → R (get_or names k d) bytes
     → AllZip R (take (k + 1) names) (images ++ bytes ∷ [])
-named-more R names k name images bytes h so one =
-    subst (λ ns. AllZip R ns (images ++ bytes ∷ [])) (sym (take_more names k name h)) (all_zipped_more R (take k names) images (get_or names k name) bytes so one)
+named-more R names k d images bytes h so one =
+    subst (λ ns. AllZip R ns (images ++ bytes ∷ [])) (sym (take_more names k d h)) (all_zipped_more R (take k names) images (get_or names k d) bytes so one)
+
+pub stands-more : (settings : Settings) (input : List ℕ) (named : List ℕ → Option (List ℕ)) (texts : List (String Global)) (k : ℕ) (text d : String Global) (old new : FoundJobs) (u : Unit {0}) → k < length texts → text ≡ get_or texts k d
+    → StandsFor settings input named (take k (map string_bytes texts)) old → AddsJob settings input (named (string_bytes text)) old new (Ok u) → StandsFor settings input named (take (k + 1) (map string_bytes texts)) new
+stands-more settings input named texts k text d old new u within item h adds =
+    let names : List (List ℕ) = map string_bytes texts in
+    let below : k < length names = (let mapped = length-map texts string_bytes in omega (arith, within, mapped)) in
+    let name : string_bytes text ≡ get_or names k (string_bytes d) = ap string_bytes item ∙ sym (get_or-map string_bytes texts k d (string_bytes d) within) in
+    record {
+      images = h.images ++ adds.0 ∷ [];
+      are_named = named-more (λ n bytes. Agrees (named n) bytes) names k (string_bytes d) h.images adds.0 below h.are_named (subst (λ n. Agrees (named n) adds.0) name adds.1);
+      stands = subst (λ (js : List (Result Image Answer)). Stands settings input js new.starts.items new.boards.items) (sym (map-append image_in h.images (adds.0 ∷ []))) (adds.2 (map image_in h.images) h.stands);
+    }
+
+-- none was read yet
+pub stands-first : (settings : Settings) (input : List ℕ) (named : List ℕ → Option (List ℕ)) (jobs : FoundJobs) → jobs.starts.items ≡ [] → jobs.boards.items ≡ [] → StandsFor settings input named [] jobs
+stands-first settings input named jobs starts boards = record {
+  images = [];
+  are_named = tt;
+  stands = record { starts_are = subst (AllZip IsStartOf []) (sym starts) tt; boards_are = subst (AllZip (IsBoardOf settings input) []) (sym boards) tt };
+}
+
+-- an image that was refused, and not for want of memory or of a read
+pub reads-refused : (settings : Settings) (input : List ℕ) (known : Option (List ℕ)) (old new : FoundJobs) (a : Answer) (start : JobStart) → start_refusal start ≡ Some a → IsRefusedEarly a → Reads {A = Image} image_in known (Err a)
+    → (r : Result (Unit {0}) Answer) → OnOk r (new.starts.items ≡ old.starts.items ++ start ∷ []) → new.boards.items ≡ old.boards.items → IfErr r (λ answer. answer ≡ NoMemory) → AddsJob settings input known old new r
+reads-refused settings input known old new a start names early (inl unread) r more same none = absurd (late-unread a unread early)
+reads-refused settings input known old new a start names early (inr read) r more same none =
+    adds-refused settings input known read.0 read.1 old new a start read.2 names r more same none
 
 -- ---- the boards of jobs
 
@@ -132,11 +176,11 @@ told-reports b workers starts boards ends is h e =
 
 pub served-jobs : (r : Request) (known : Known) (jobs : FoundJobs) (workers : ℕ) (old new : Sinks) (v : Served) → workers ≡ r.workers → FindsJobs r known (Ok jobs)
     → ((b : Batch) → b.workers ≡ workers → Stands b.settings b.input b.jobs jobs.starts.items jobs.boards.items → IsRun b old new v) → IsServed (Some r) known old new v
-served-jobs r known jobs workers old new v is h run = by (run (batch_of r h.0.images h.2) (sym is) h.4)
+served-jobs r known jobs workers old new v is (found, agrees, (input, plan-is, stands)) run = by (run (batch_of r found.images input) (sym is) stands)
   where
-    by : IsRun (batch_of r h.0.images h.2) old new v → IsServed (Some r) known old new v
-    by (inl stopped) = record { found = h.0; agrees = h.1; keeps = inl (inr stopped.0, stopped.1) }
-    by (inr kept) = served-plan (Some r) known h.0 (Runs (batch_of r h.0.images h.2)) old new v h.1 h.3 kept
+    by : IsRun (batch_of r found.images input) old new v → IsServed (Some r) known old new v
+    by (inl stopped) = record { found = found; agrees = agrees; keeps = inl (inr stopped.0, stopped.1) }
+    by (inr kept) = served-plan (Some r) known found (Runs (batch_of r found.images input)) old new v agrees plan-is kept
 
 pub served-no_jobs : (r : Request) (known : Known) (a : Answer) (s : Sinks) → FindsJobs r known (Err a) → IsServed (Some r) known s s (plainly a)
 served-no_jobs r known a s (inl unread) = served-unread (Some r) known s a unread
@@ -178,7 +222,46 @@ module _ (r : Request) (known : Known) (task : r.task ≡ Tasks.Batch) where
           beside = some_agree known.beside;
           images = λ others is. subst (λ (ns : List (List ℕ)). AllZip (λ name bytes. Agrees (known.named name) bytes) ns h.images) (same-names others is) h.are_named;
         } in
-        (found, agrees, input, after-list found names list.2 ∙ ap (λ x. after x (λ taken. Runs (batch_of r found.images taken))) read.2, h.stands)
+        (found, agrees, (input, after-list found names list.2 ∙ ap (λ x. after x (λ taken. Runs (batch_of r found.images taken))) read.2, h.stands))
       where
         same-names : (others : List (List ℕ)) → names_in list.0 ≡ Some others → names ≡ others
         same-names others is = (let same : Some names ≡ Some others = sym (named-by list.0 names list.2) ∙ is in cc)
+
+    pub finds-result : (settings : Settings) (named : List ℕ → Option (List ℕ)) → settings ≡ job_settings r → named ≡ known.named → (input : List ℕ) → Reads (input_in (not r.no_input)) known.input (Ok input)
+        → (x : Result FoundJobs Answer) → ReadsJobs settings input named names x → FindsJobs r known x
+    finds-result settings named same all input read (Ok jobs) h =
+        finds-jobs input read jobs (subst (λ (s : Settings). StandsFor s input known.named names jobs) same (subst (λ (f : List ℕ → Option (List ℕ)). StandsFor settings input f names jobs) all h))
+    finds-result settings named same all input read (Err a) h = inl h
+
+-- a list has few names, so there are few boards
+pub few-found : (settings : Settings) (input : List ℕ) (named : List ℕ → Option (List ℕ)) (names : List (List ℕ)) (known : Option (List ℕ)) → Reads list_in known (Ok names)
+    → (x : Result FoundJobs Answer) → ReadsJobs settings input named names x → IfOk x (λ jobs. length jobs.boards.items ≤ 16)
+few-found settings input named names known list (Ok jobs) h =
+    let few = names-few list.0 names (named-by list.0 names list.2) in
+    let less = few-boards settings input named names jobs h in
+    omega (arith, few, less)
+few-found settings input named names known list (Err a) h = tt
+
+-- a job that could not be read
+pub jobs-unread : (settings : Settings) (input : List ℕ) (named : List ℕ → Option (List ℕ)) (names : List (List ℕ)) (x : Result FoundJobs Answer) → ReadsJobs settings input named names x → IfErr x IsUnread
+jobs-unread settings input named names (Ok jobs) h = tt
+jobs-unread settings input named names (Err a) h = h
+
+-- ---- histories that are handed out
+
+module _ (before now now' : List (List Entry)) (done : List JobReport) (report : JobReport) (so : now ≡ before ++ histories_of_jobs done) where
+  pub added-one : (entries : List Entry) → history_in report ≡ Some entries → now' ≡ now ++ entries ∷ [] → now' ≡ before ++ histories_of_jobs (done ++ report ∷ [])
+  added-one entries is more =
+      more ∙ ap (λ hs. hs ++ entries ∷ []) so ∙ append_assoc before (histories_of_jobs done) (entries ∷ [])
+      ∙ ap (λ hs. before ++ hs) (sym (filter_map-append history_in done (report ∷ []) ∙ ap (λ o. histories_of_jobs done ++ cons_option o []) is))
+
+  pub added-none : history_in report ≡ None → now ≡ before ++ histories_of_jobs (done ++ report ∷ [])
+  added-none is =
+      so ∙ ap (λ hs. before ++ hs) (sym (filter_map-append history_in done (report ∷ []) ∙ ap (λ o. histories_of_jobs done ++ cons_option o []) is ∙ append-nil (histories_of_jobs done)))
+
+-- how many are left
+pub left-one : (report : JobReport) (rest : List JobReport) (entries : List Entry) → history_in report ≡ Some entries → length (histories_of_jobs (report ∷ rest)) ≡ length (histories_of_jobs rest) + 1
+left-one report rest entries is = (let steps = ap (λ (o : Option (List Entry)). length (cons_option o (histories_of_jobs rest))) is in omega (arith, steps))
+
+pub left-none : (report : JobReport) (rest : List JobReport) → history_in report ≡ None → length (histories_of_jobs (report ∷ rest)) ≡ length (histories_of_jobs rest)
+left-none report rest is = ap (λ (o : Option (List Entry)). length (cons_option o (histories_of_jobs rest))) is

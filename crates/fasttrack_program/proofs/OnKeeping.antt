@@ -99,4 +99,4 @@ late-shown x old new v (inr (inr h)) = late-as v (plainly NoMemory) h.0 (λ is. 
 
 pub late-run : (b : Batch) (old new : Sinks) (v : Served) → IsRun b old new v → IsLate v.answer
 late-run b old new v (inl h) = late-as v (plainly NoMemory) h.0 (λ is. cc, λ early. early)
-late-run b old new v (inr k) = late-written (marked 1 (jobs_text k.reports)) (record { answer = Shown; told = Each k.reports }) old new v (λ is. cc, λ early. early) k.kept
+late-run b old new v (inr k) = late-written (marked 1 (jobs_text k.reports.items)) (record { answer = Shown; told = Each k.reports }) old new v (λ is. cc, λ early. early) k.kept

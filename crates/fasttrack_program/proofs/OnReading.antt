@@ -1,6 +1,6 @@
 -- Bytes beyond their limit, and how a call reads
 use Rattle.std.proofs.Common.{◌≡◌, ◌≢◌, ℕ, ◌+◌, ◌<◌, Bool, true, false, List, [], length, replicate, Option, Some, None, IfSome, Result, Ok, Err, inl, inr, refl, sym, ap, ◌∙◌, subst, arith}
-use Rattle.std.specs.Prelude.{IsTrue, IsOk, not, ◌&&◌}
+use Rattle.std.specs.Prelude.{IfErr, IsTrue, IsOk, not, ◌&&◌}
 use Rattle.std.proofs.lemmas.Bool.{lt-ltb}
 use Rattle.std.proofs.lemmas.List.{length-replicate}
 use Rattle.host_io.specs.Faults.{Rose}
@@ -8,6 +8,7 @@ use Rattle.host_io.specs.declared.files.Files.{Ghosts as FilesRow}
 use Rattle.host_io.specs.declared.source.Source.{Ghosts as SourceRow}
 use Rattle.guest_model.specs.Image.{Image}
 use Rattle.program_words.specs.CommandLine.{Request}
+use Rattle.fasttrack_program.specs.Finding.{ReadsFor}
 use Rattle.fasttrack_program.specs.Plan.{takes_file, takes_input, takes_more, reads_file, reads_input, bytes_in, image_in, image_limit, input_in, input_limit}
 use Rattle.fasttrack_program.specs.Reading.{Agrees, Holds, IsUnread, known_file, Reads, CountsReadFault, IsRefusedEarly, IsLate, ReadsInOrder}
 use Rattle.fasttrack_program.specs.declared.answer.Answer.{Answer}
@@ -186,3 +187,8 @@ module _ {F I : Type 0} (f : FilesRow F) (i : SourceRow I) (r : Request) (file :
       no_input = before.no_input;
       early = λ e. absurd (late e);
     }
+
+    -- they were all read, or one of them could not be
+    pub reads-rest : (T : Type 0) (x : Result T Answer) → IfErr x IsUnread → CountsReadFault {T = T} (f.faults between) (f.faults files') x → ReadsFor {A = T} f i r files files' input input' x
+    reads-rest T (Ok y) unread c = λ answer late. reads-all (c.calm (λ e. cc)) answer late
+    reads-rest T (Err a) unread c = reads-more T a c (late-unread a unread)

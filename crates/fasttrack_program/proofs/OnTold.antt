@@ -80,8 +80,8 @@ tells-kept most (Shows x) old new v h (inl k) = tells-written most (marked 1 k.0
 tells-kept most (Shows x) old new v h (inr (inl k)) = tells-plainly most v k.0 k.2
 tells-kept most (Shows x) old new v h (inr (inr k)) = tells-plainly most v _ k.0
 tells-kept most (Runs b) old new v h k =
-    let few = few-histories (IsReportOf b) b.jobs k.reports k.are_reports in
-    tells-written most (marked 1 (jobs_text k.reports)) (record { answer = Shown; told = Each k.reports }) old new v (omega (arith, few, h)) k.kept
+    let few = few-histories (IsReportOf b) b.jobs k.reports.items k.are_reports in
+    tells-written most (marked 1 (jobs_text k.reports.items)) (record { answer = Shown; told = Each k.reports }) old new v (omega (arith, few, h)) k.kept
 
 -- ---- what a plan allows
 

@@ -1,5 +1,5 @@
 -- What is found for a request before its task is begun: what it is done on, or why there is none
-use Rattle.std.specs.Prelude.{◌≡◌, ℕ, Bool, not, List, [], ◌∷◌, ◌++◌, Option, Some, None, String, map, string_bytes, Result, Ok, Err, ◌⊎◌}
+use Rattle.std.specs.Prelude.{◌≡◌, ℕ, Bool, not, List, [], ◌∷◌, ◌++◌, Option, Some, None, String, Vec, map, string_bytes, Result, Ok, Err, ◌⊎◌}
 use Rattle.std.specs.List.{AllZip, filter_map}
 use Rattle.guest_model.specs.Image.{Image}
 use Rattle.host_io.specs.declared.files.Files.{Ghosts as FilesRow}
@@ -113,8 +113,8 @@ AddsJob settings input known old new (Ok _) = (bytes : List ℕ) × Agrees known
 AddsJob settings input known old new (Err answer) = IsUnread answer
 
 -- a list that was read, by its names
-abbrev pub listed : Result (List String) Answer → Result (List (List ℕ)) Answer
-listed (Ok names) = Ok (map string_bytes names)
+abbrev pub listed : {A Z : Type 0} → Result (Vec (String Z) A) Answer → Result (List (List ℕ)) Answer
+listed (Ok names) = Ok (map string_bytes names.items)
 listed (Err answer) = Err answer
 
 -- The jobs of the plan for some list, input and images, which are those that are known, where they are known; or the answer

@@ -1,5 +1,6 @@
 -- How far the plan of a call is kept, up to the line of its answer
-use Rattle.std.specs.Prelude.{◌≡◌, ℕ, if◌then◌else◌, List, Option, Result, Ok, Err, ◌⊎◌}
+use Rattle.std.specs.Prelude.{◌≡◌, ℕ, if◌then◌else◌, List, Option, Vec, Result, Ok, Err, ◌⊎◌}
+use Rattle.std.specs.Global.{Global}
 use Rattle.speculation.specs.declared.history.Entry.{Entry}
 use Rattle.speculation.specs.Run.{Mark, marked}
 use Rattle.guest_streams.specs.GuestStreams.{Sinks, GetsAll, GetsPart, StopsShort}
@@ -61,9 +62,9 @@ pub record KeepsPromise (p : Promise) (g : Given) (old new : Sinks) (s : Served)
 -- How far the text of a batch was shown, whose reports are of its own jobs. Once all of it is shown, the history of each job
 -- that is done is told.
 pub record KeepsBatch (b : Batch) (old new : Sinks) (s : Served) : Type 0 where
-  pub reports : List JobReport
-  pub are_reports : AreReports b reports
-  pub kept : IsWritten (marked 1 (jobs_text reports)) (record { answer = Shown; told = Each reports }) old new s
+  pub reports : Vec JobReport Global
+  pub are_reports : AreReports b reports.items
+  pub kept : IsWritten (marked 1 (jobs_text reports.items)) (record { answer = Shown; told = Each reports }) old new s
 
 -- a call that is refused writes nothing
 abbrev pub Keeps : Plan → Sinks → Sinks → Served → Type 0

@@ -31,7 +31,7 @@ completes _ = false
 abbrev pub histories_in : Told → List (List Entry)
 histories_in Nothing = []
 histories_in (One entries) = entries ∷ []
-histories_in (Each reports) = histories_of_jobs reports
+histories_in (Each reports) = histories_of_jobs reports.items
 
 -- the histories that are told, with these behind them where the call's answer still is that of a task that was done
 abbrev pub with_histories : List (List Entry) → Told → Answer → List (List Entry)

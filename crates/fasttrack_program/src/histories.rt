@@ -123,11 +123,16 @@ fn add_done(histories: &mut Vec<Entries>, reports: Vec<JobReport>)
 fn history_of(report: JobReport) -> Option<Entries>
     ensures { result ≡ history_in report }
 {
-    match report {
-        JobReport::Ran(JobEnd {
-            outcome: JobOutcome::Done(outcome),
-            ..
-        }) => Some(outcome.entries),
-        _ => None,
+    let JobReport::Ran(end) = report else {
+        return None;
+    };
+    let JobEnd {
+        out: _,
+        notes: _,
+        outcome,
+    } = end;
+    match outcome {
+        JobOutcome::Done(outcome) => Some(outcome.entries),
+        JobOutcome::NoMemory => None,
     }
 }

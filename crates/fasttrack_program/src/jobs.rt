@@ -1,15 +1,13 @@
 //! What a batch is done on.
 
-ghost use Rattle.std.specs.Prelude.{◌≡◌, ◌≢◌, ◌≤◌, [], ◌∷◌, ◌++◌, IfOk, OnOk, IsTrue, Some, length, map, string_bytes};
-ghost use Rattle.elf32_loader.specs.LoadedImage.{image_of_loaded};
+ghost use Rattle.std.specs.Prelude.{◌≡◌, ◌≤◌, [], ◌∷◌, ◌++◌, IfOk, IfErr, OnOk, Some, length, map, string_bytes};
 ghost use Rattle.job_listing.specs.declared.report.JobStart.TheVariants as Starts;
 ghost use Rattle.program_words.specs.CommandLine.{asked};
 ghost use Rattle.program_words.specs.declared.request.Task.TheVariants.{Batch};
 ghost use Rattle.track_board.specs.Value.{IsSettings};
 ghost use Rattle.fasttrack_program.specs.Finding.{AddsJob, FindsJobs, ReadsFor, ReadsJobs, listed};
-ghost use Rattle.fasttrack_program.specs.Jobs.{IsBoardOf};
 ghost use Rattle.fasttrack_program.specs.Plan.{job_settings, list_in};
-ghost use Rattle.fasttrack_program.specs.Reading.{CountsReadFault, IsUnread, Reads, known_of};
+ghost use Rattle.fasttrack_program.specs.Reading.{CountsReadFault, Reads, known_of};
 
 use crate::answer::Answer;
 use crate::read::{read_file, read_image, read_input};
@@ -143,15 +141,11 @@ fn read_job<F: Files>(
     ensures counted { CountsReadFault (F.faults files.old) (F.faults files.new) result }
     ensures held { F.contents files.new ≡ F.contents files.old }
 {
-    let added = match read_image(alloc, files, name) {
+    match read_image(alloc, files, name) {
         Ok(loaded) => add_board(alloc, &loaded, input, settings, jobs),
         Err(Answer::ImageTooLong) => add_start(JobStart::TooLong, jobs),
         Err(Answer::BadImage(fault)) => add_start(JobStart::BadImage(fault), jobs),
-        Err(unread) => return Err(unread),
-    };
-    match added {
-        Ok(()) => Ok(()),
-        Err(NoMemory) => Err(Answer::NoMemory),
+        Err(unread) => Err(unread),
     }
 }
 
@@ -165,23 +159,48 @@ fn add_board(
     input: &Arc<Bytes>,
     settings: Settings,
     jobs: &mut FoundJobs,
-) -> Result<(), NoMemory>
+) -> Result<(), Answer>
     requires { IsSettings settings }
     ensures starts { OnOk result (jobs.new.starts.items ≡ jobs.old.starts.items ++ Starts.Runs ∷ []) }
     ensures boards { OnOk result (jobs.new.boards.items ≡ jobs.old.boards.items ++ (record { settings = settings; loaded = loaded.now; input = input.now.value; entries = [] }) ∷ []) }
+    ensures err { IfErr result (λ answer. answer ≡ Answer.NoMemory) }
 {
-    let board = Board::new(alloc, loaded, input.clone()?, settings)?;
-    jobs.boards.push(board)?;
-    add_start(JobStart::Runs, jobs)
+    let Ok(board) = new_board(alloc, loaded, input, settings) else {
+        return Err(Answer::NoMemory);
+    };
+    match jobs.boards.push(board) {
+        Ok(()) => add_start(JobStart::Runs, jobs),
+        Err(_) => Err(Answer::NoMemory),
+    }
+}
+
+/// A board of this image, by these settings, that shares the input.
+///
+/// # Errors
+/// `NoMemory` where there is no room for it.
+fn new_board(
+    alloc: Global,
+    loaded: &Loaded,
+    input: &Arc<Bytes>,
+    settings: Settings,
+) -> Result<Board, NoMemory>
+    requires { IsSettings settings }
+    ensures { IfOk result (λ b. b ≡ record { settings = settings; loaded = loaded.now; input = input.now.value; entries = [] }) }
+{
+    Board::new(alloc, loaded, input.clone()?, settings)
 }
 
 /// Adds how a job starts.
 ///
 /// # Errors
 /// `NoMemory` where there is no room for it.
-fn add_start(start: JobStart, jobs: &mut FoundJobs) -> Result<(), NoMemory>
+fn add_start(start: JobStart, jobs: &mut FoundJobs) -> Result<(), Answer>
     ensures starts { OnOk result (jobs.new.starts.items ≡ jobs.old.starts.items ++ start ∷ []) }
     ensures boards { jobs.new.boards.items ≡ jobs.old.boards.items }
+    ensures err { IfErr result (λ answer. answer ≡ Answer.NoMemory) }
 {
-    Ok(jobs.starts.push(start)?)
+    match jobs.starts.push(start) {
+        Ok(()) => Ok(()),
+        Err(_) => Err(Answer::NoMemory),
+    }
 }

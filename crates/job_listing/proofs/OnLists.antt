@@ -89,16 +89,11 @@ lines-tell (b ∷ bytes) lines e = elim (cases_Bool (b == 10)) [
 
 -- ---- names
 
-name-true-of : (line : List ℕ) → 1 ≤ length line → length line ≤ 255 → IsUtf8 line → is_name line ≡ true
-name-true-of line some few utf8 = and_from _ _ (le-leb 1 (length line) some) (and_from _ _ (le-leb (length line) 255 few) (is_utf8-from_IsUtf8 line utf8))
-
--- by a test for no bytes
-pub name-true : (line : List ℕ) (empty : Bool) → empty ≡ (length line == 0) → empty ≡ false → length line ≤ 255 → IsUtf8 line → is_name line ≡ true
-name-true [] empty is some few utf8 = absurd (cc)
-name-true (b ∷ line) empty is some few utf8 = name-true-of (b ∷ line) (omega arith) few utf8
+pub name_true : (line : List ℕ) → 1 ≤ length line → length line ≤ 255 → IsUtf8 line → is_name line ≡ true
+name_true line some few utf8 = and_from _ _ (le-leb 1 (length line) some) (and_from _ _ (le-leb (length line) 255 few) (is_utf8-from_IsUtf8 line utf8))
 
 name-from : (line : List ℕ) → IsName line → is_name line ≡ true
-name-from line h = name-true-of line h.some h.few h.utf8
+name-from line h = name_true line h.some h.few h.utf8
 
 name-is : (line : List ℕ) → IsOneLine line → is_name line ≡ true → IsName line
 name-is line one t =
@@ -106,11 +101,8 @@ name-is line one t =
     let few = and_parts _ _ some.1 in
     record { some = leb-true 1 (length line) some.0; few = leb-true (length line) 255 few.0; utf8 = IsUtf8-from_is_utf8 line few.1; one_line = one }
 
-pub name-false : (line : List ℕ) → (1 ≤ length line → length line ≤ 255 → IsUtf8 line → ⊥) → is_name line ≡ false
-name-false line none = false_from_ne_true (is_name line) (λ t.
-    let some = and_parts _ _ t in
-    let few = and_parts _ _ some.1 in
-    none (leb-true 1 (length line) some.0) (leb-true (length line) 255 few.0) (IsUtf8-from_is_utf8 line few.1))
+pub name_false : (line : List ℕ) → ¬ IsUtf8 line → is_name line ≡ false
+name_false line not = and_right _ _ (and_right _ _ (false_from_ne_true (is_utf8 line) (λ t. not (IsUtf8-from_is_utf8 line t))))
 
 names-from : (names : List (List ℕ)) → All IsName names → list_all is_name names ≡ true
 names-from [] each = refl

@@ -7,6 +7,7 @@ ghost use Rattle.job_listing.specs.Lists.{is_name, names_in, ReadsList};
 use memchr::memchr;
 use std::alloc::{AllocError, AllocFailed, Global};
 use std::str;
+use thiserror::Error;
 
 /// The most bytes of a list.
 pub const MOST_BYTES: usize = 4_096;
@@ -18,11 +19,13 @@ pub const MOST_NAMES: usize = 16;
 pub const MOST_NAME: usize = 255;
 
 /// Why a list names no jobs.
-#[derive(Debug, Clone, Copy, PartialEq, Eq)]
+#[derive(Debug, Clone, Copy, PartialEq, Eq, Error)]
 pub enum ListFault {
     /// It is not of the form.
+    #[error("bad list")]
     Form,
     /// The host's memory ran out.
+    #[error("out of memory")]
     NoMemory,
 }
 
@@ -99,6 +102,7 @@ fn cut_line(list: &[u8]) -> Option<(&[u8], &[u8])>
 }
 
 /// The name that a line is.
+#[tactic(auto, using(crate::proofs::OnLists::name_true, crate::proofs::OnLists::name_false))]
 fn name_in(line: &[u8]) -> Option<&str>
     ensures name { IfSome result (λ name. (name.now ≡ line.now) × (is_name line.now ≡ true)) }
     ensures none { IfNone result (is_name line.now ≡ false) }

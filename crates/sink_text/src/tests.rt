@@ -1,6 +1,6 @@
 //! Texts on sinks in memory that have room for some bytes alone.
 
-use crate::texts::{write_made, write_text};
+use crate::texts::{write_bytes, write_made, write_text};
 use guest_model::NoMemory;
 use guest_streams::OutputFault;
 use host_io::MemorySink;
@@ -17,6 +17,20 @@ fn texts_are_written_whole_or_up_to_the_room(rt: HostRuntime) -> Result<(), Fail
         let mut out = MemorySink::new(alloc, room, Vec::new(alloc))?;
         assert_eq!(rt; write_text("abc", &mut out), wanted);
         assert!(rt; out.written() == written.as_bytes());
+    }
+    Ok(())
+}
+
+#[test]
+fn bytes_are_written_as_they_are(rt: HostRuntime) -> Result<(), Fail> {
+    let alloc = rt.alloc();
+    for (room, wanted, written) in [
+        (3, Ok(()), [0xFF, 0, b'\n'].as_slice()),
+        (1, Err(OutputFault::Write), &[0xFF]),
+    ] {
+        let mut out = MemorySink::new(alloc, room, Vec::new(alloc))?;
+        assert_eq!(rt; write_bytes(&[0xFF, 0, b'\n'], &mut out), wanted);
+        assert_eq!(rt; out.written(), written);
     }
     Ok(())
 }
