@@ -46,19 +46,27 @@ struct Objects {
     told: Histories,
 }
 
-/// The file `g`, and the file `h` where there is one.
+/// The file `g` of a run, the file `h` where there is one, and the files of the run that have names of their own.
 fn files_of(
     alloc: Global,
-    file: &[u8],
+    run: &Run,
     beside: Option<&[u8]>,
     failing: &[u64],
 ) -> Result<MemoryFiles, Fault> {
     let mut files = MemoryFiles::new(alloc, Vec::from_slice(alloc, failing)?);
-    files.add(String::from_str(alloc, "g")?, bytes_of(alloc, file)?)?;
+    add_file(alloc, &mut files, "g", run.file.as_slice())?;
     if let Some(beside) = beside {
-        files.add(String::from_str(alloc, "h")?, bytes_of(alloc, beside)?)?;
+        add_file(alloc, &mut files, "h", beside)?;
+    }
+    for (name, bytes) in run.named.iter() {
+        add_file(alloc, &mut files, name.as_str(), bytes.as_slice())?;
     }
     Ok(files)
+}
+
+fn add_file(alloc: Global, files: &mut MemoryFiles, name: &str, bytes: &[u8]) -> Result<(), Fault> {
+    files.add(String::from_str(alloc, name)?, bytes_of(alloc, bytes)?)?;
+    Ok(())
 }
 
 fn input_of(alloc: Global, input: &[u8], failing: &[u64]) -> Result<MemorySource, Fault> {
@@ -74,7 +82,7 @@ fn objects_of(
     failing: Failing<'_>,
 ) -> Result<Objects, Fault> {
     Ok(Objects {
-        files: files_of(alloc, run.file.as_slice(), beside, failing.files)?,
+        files: files_of(alloc, run, beside, failing.files)?,
         input: input_of(alloc, run.input.as_slice(), failing.input)?,
         out: sink(alloc, failing.out)?,
         notes: sink(alloc, failing.notes)?,

@@ -4,6 +4,7 @@ use crate::bytes::{Blocks, append_line, split_word};
 use crate::fault::Fault;
 use crate::wanted::Pieces;
 use std::alloc::Global;
+use std::collections::BTreeMap;
 
 /// Which calls of each object fail, counted from 0.
 #[derive(Clone, Copy)]
@@ -26,6 +27,8 @@ pub struct Run {
     pub file: Vec<u8>,
     /// The file `h`, if there is one.
     beside: Option<Vec<u8>>,
+    /// The further files, by their names.
+    pub named: BTreeMap<String, Vec<u8>>,
     pub input: Vec<u8>,
     failing_files: Vec<u64>,
     failing_input: Vec<u64>,
@@ -67,6 +70,7 @@ impl Run {
             workers: Vec::new(alloc),
             file: Vec::new(alloc),
             beside: None,
+            named: BTreeMap::new(alloc),
             input: Vec::new(alloc),
             failing_files: Vec::new(alloc),
             failing_input: Vec::new(alloc),
@@ -142,6 +146,7 @@ impl Run {
             "workers" => read_words(alloc, &mut self.workers, rest),
             "file" => append_line(alloc, blocks, &mut self.file, rest),
             "beside" => self.read_beside(alloc, blocks, rest),
+            "named" => self.read_named(alloc, blocks, rest),
             "input" => append_line(alloc, blocks, &mut self.input, rest),
             "fails" => self.read_failing(rest),
             "each" => self.read_each(rest),
@@ -161,6 +166,18 @@ impl Run {
         };
         append_line(alloc, blocks, &mut bytes, line)?;
         self.beside = Some(bytes);
+        Ok(())
+    }
+
+    /// NAME LINE: appends to the file of this name, which is there from the first such line on.
+    fn read_named(&mut self, alloc: Global, blocks: &Blocks, text: &str) -> Result<(), Fault> {
+        let (name, line) = split_word(text);
+        let mut bytes = match self.named.remove(name) {
+            Some(bytes) => bytes,
+            None => Vec::new(alloc),
+        };
+        append_line(alloc, blocks, &mut bytes, line)?;
+        self.named.insert(String::from_str(alloc, name)?, bytes)?;
         Ok(())
     }
 
