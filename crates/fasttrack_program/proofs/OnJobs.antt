@@ -1,7 +1,7 @@
 -- The jobs of a batch: from the files that a list names to what is reported of each
 use Rattle.std.proofs.Common.{◌≡◌, ℕ, zero, suc, ◌+◌, ◌<◌, ◌≤◌, true, false, List, [], ◌∷◌, ◌++◌, length, take, get_or, map, Option, Some, None, Result, Ok, Err, ◌⊎◌, inl, inr, refl, sym, ap, ◌∙◌, subst, append-nil, append_assoc, arith}
 use Rattle.std.specs.Global.{Global}
-use Rattle.std.specs.Prelude.{All, IfOk, IfErr, OnOk, String, string_bytes, not, if◌then◌else◌}
+use Rattle.std.specs.Prelude.{All, IfOk, IfErr, OnOk, String, Vec, string_bytes, not, if◌then◌else◌}
 use Rattle.std.specs.List.{AllZip, cons_option, filter_map}
 use Rattle.std.proofs.Math.ListN.{length-map}
 use Rattle.std.proofs.lemmas.List.{take_more, map-append, get_or-map}
@@ -11,11 +11,14 @@ use Rattle.speculation.specs.declared.history.Entry.{Entry}
 use Rattle.speculation.specs.declared.history.Settings.{Settings}
 use Rattle.guest_model.specs.Image.{Image}
 use Rattle.guest_streams.specs.GuestStreams.{Sinks}
+use Rattle.guest_streams.specs.declared.fault.OutputFault.{OutputFault}
+use Rattle.guest_streams.specs.declared.fault.OutputFault.TheVariants as F
+use Rattle.sink_text.specs.TextOnSink.{WritesText}
 use Rattle.track_board.specs.Value.{Posted}
 use Rattle.job_batch.specs.Ends.{IsFresh, IsEndOf, AreEnds}
 use Rattle.job_batch.specs.declared.ends.JobEnd.{JobEnd}
 use Rattle.job_listing.specs.Lists.{names_in}
-use Rattle.job_listing.specs.Listing.{merged, runs_in}
+use Rattle.job_listing.specs.Listing.{jobs_text, merged, runs_in}
 use Rattle.job_listing.proofs.OnLists.{names-few}
 use Rattle.job_listing.specs.declared.report.JobReport.{JobReport}
 use Rattle.job_listing.specs.declared.report.JobReport.TheVariants as Reports
@@ -24,14 +27,17 @@ use Rattle.job_listing.specs.declared.report.JobStart.TheVariants as Starts
 use Rattle.program_words.specs.CommandLine.{Request}
 use Rattle.program_words.specs.declared.request.Task.TheVariants as Tasks
 use Rattle.fasttrack_program.specs.declared.answer.Answer.{Answer}
-use Rattle.fasttrack_program.specs.declared.answer.Answer.TheVariants.{NoMemory}
+use Rattle.fasttrack_program.specs.declared.answer.Answer.TheVariants.{Shown, NoMemory}
 use Rattle.fasttrack_program.specs.declared.jobs.FoundJobs.{FoundJobs}
 use Rattle.fasttrack_program.specs.declared.served.Served.{Served}
+use Rattle.fasttrack_program.specs.declared.served.Told.TheVariants.{Each}
+use Rattle.fasttrack_program.specs.Answers.{answer_of_fault}
 use Rattle.fasttrack_program.specs.Finding.{AddsJob, ReadsJobs, IsStartOf, Stands, StandsFor, FindsJobs, images_in, ok_image, start_refusal}
 use Rattle.fasttrack_program.specs.Jobs.{Batch, IsBoardOf, IsReportOf, AreReports, history_in, histories_of_jobs}
 use Rattle.fasttrack_program.specs.Plan.{Found, Plan, Refused, Runs, after, batch_of, image_in, input_in, job_settings, list_in, plan, unless_none}
 use Rattle.fasttrack_program.specs.Reading.{Agrees, Known, AgreesWith, IsUnread, IsRefusedEarly, Reads}
 use Rattle.fasttrack_program.specs.Serving.{plainly, IsRun, IsServed}
+use Rattle.fasttrack_program.proofs.OnReports.{text_shown, text_stops, text_within}
 use Rattle.fasttrack_program.proofs.OnReading.{late-unread}
 use Rattle.fasttrack_program.proofs.OnPlans.{some_images, some_named, some_bytes, some_agree, found_file, agrees_file, found_both, agrees_both, plan-by, served-plan, served-unread}
 
@@ -137,17 +143,17 @@ few-images R (Ok i ∷ js) [] h = absurd h
 few-images R (Ok i ∷ js) (v ∷ vs) h = (let less = few-images R js vs h.1 in omega (arith, less))
 few-images R (Err a ∷ js) vs h = (let less = few-images R js vs h in omega (arith, less))
 
-pub named-length : {A : Type 0} (R : A → List ℕ → Type 0) (names : List A) (images : List (List ℕ)) → AllZip R names images → length images ≡ length names
-named-length R [] [] h = refl
-named-length R [] (x ∷ xs) h = absurd h
-named-length R (n ∷ ns) [] h = absurd h
-named-length R (n ∷ ns) (x ∷ xs) h = ap suc (named-length R ns xs h.1)
+pub as-many : {A B : Type 0} (R : A → B → Type 0) (xs : List A) (ys : List B) → AllZip R xs ys → length ys ≡ length xs
+as-many R [] [] h = refl
+as-many R [] (y ∷ ys) h = absurd h
+as-many R (x ∷ xs) [] h = absurd h
+as-many R (x ∷ xs) (y ∷ ys) h = ap suc (as-many R xs ys h.1)
 
 -- and no more than names
 pub few-boards : (settings : Settings) (input : List ℕ) (named : List ℕ → Option (List ℕ)) (names : List (List ℕ)) (jobs : FoundJobs) → StandsFor settings input named names jobs → length jobs.boards.items ≤ length names
 few-boards settings input named names jobs h =
     let less = few-images (IsBoardOf settings input) (map image_in h.images) jobs.boards.items h.stands.boards_are in
-    let same = named-length (λ name bytes. Agrees (named name) bytes) names h.images h.are_named in
+    let same = as-many (λ name bytes. Agrees (named name) bytes) names h.images h.are_named in
     let mapped = length-map h.images image_in in
     omega (arith, less, same, mapped)
 
@@ -171,6 +177,20 @@ report-each b (Err a ∷ js) (Starts.Runs ∷ ss) vs es h k m = absurd (let bad 
 pub told-reports : (b : Batch) (workers : ℕ) (starts : List JobStart) (boards : List Posted) (ends : List JobEnd) → b.workers ≡ workers → Stands b.settings b.input b.jobs starts boards → AreEnds workers boards ends → AreReports b (merged starts ends)
 told-reports b workers starts boards ends is h e =
     report-each b b.jobs starts boards ends h.starts_are h.boards_are (subst (λ n. AreEnds n boards ends) (sym is) e)
+
+-- as many ends as jobs that run
+pub ends-counted : (workers : ℕ) (boards : List Posted) (ends : List JobEnd) (starts : List JobStart) → AreEnds workers boards ends → length boards ≡ runs_in starts → length ends ≡ runs_in starts
+ends-counted workers boards ends starts are h = as-many (IsEndOf workers) boards ends are ∙ h
+
+-- ---- what is shown of a batch
+
+module _ (b : Batch) (reports : Vec JobReport Global) (are : AreReports b reports.items) (s : Sinks) (got : Option (List ℕ)) (faults : ℕ) where
+  pub reports-whole : (u : Unit {0}) → WritesText {T = Unit {0}} s.out got s.out_faults faults (jobs_text reports.items) (Ok u) → IsRun b s (record s { out = got; out_faults = faults }) (record { answer = Shown; told = Each reports })
+  reports-whole u h = inr (record { reports = reports; are_reports = are; kept = inl (refl, text_shown s got faults (jobs_text reports.items) h.0 h.1) })
+
+  pub reports-part : (e : OutputFault) → WritesText {T = Unit {0}} s.out got s.out_faults faults (jobs_text reports.items) (Err e) → IsRun b s (record s { out = got; out_faults = faults }) (plainly (answer_of_fault e))
+  reports-part F.Write h = inr (record { reports = reports; are_reports = are; kept = inr (inl (refl, text_stops s got faults (jobs_text reports.items) h)) })
+  reports-part F.NoMemory h = inr (record { reports = reports; are_reports = are; kept = inr (inr (refl, text_within s got faults (jobs_text reports.items) h)) })
 
 -- ---- calls that were served
 

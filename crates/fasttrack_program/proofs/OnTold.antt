@@ -27,7 +27,7 @@ use Rattle.fasttrack_program.specs.Reading.{Known, AgreesWith, Agrees}
 use Rattle.fasttrack_program.specs.Serving.{plainly, wholly, IsStopped, IsWritten, IsShown, Keeps, IsServed}
 use Rattle.fasttrack_program.specs.Showing.{Showing}
 use Rattle.fasttrack_program.specs.TopCall.{histories_in, most_histories}
-use Rattle.fasttrack_program.proofs.OnJobs.{named-by, named-length}
+use Rattle.fasttrack_program.proofs.OnJobs.{named-by, as-many}
 
 -- no more than so many histories go with what was served
 abbrev pub Tells : ℕ → Served → Type 0
@@ -102,7 +102,7 @@ allows-batch r known found agrees =
     (λ input it.
         let named : names_in found.file ≡ Some names = named-by found.file names is in
         let few = names-few found.file names named in
-        let same = named-length (λ name bytes. Agrees (known.named name) bytes) names found.images (agrees.images names named) in
+        let same = as-many (λ name bytes. Agrees (known.named name) bytes) names found.images (agrees.images names named) in
         let mapped = length-map found.images image_in in
         omega (arith, few, same, mapped)))
 

@@ -1,4 +1,4 @@
-use Rattle.std.proofs.Common.{refl, inr}
+use Rattle.std.proofs.Common.{refl}
 use Rattle.elf32_loader.specs.LoadedImage.{image_of_loaded}
 use Rattle.job_listing.specs.declared.report.JobStart.TheVariants as Starts
 use Rattle.fasttrack_program.specs.declared.answer.Answer.TheVariants as A
@@ -20,4 +20,4 @@ pub returns-in-Err-BadImage-clause-job : goal.returns-in-Err-BadImage-clause-job
 returns-in-Err-BadImage-clause-job g c =
     let start = c.add_start-in-Err-BadImage in
     reads-refused c.args.settings c.args.input.now.value (g.F.Files.contents c.args.files.now c.args.name.now) c.args.jobs.now start.new.jobs (A.BadImage c.in-Err-BadImage.fault) (Starts.BadImage c.in-Err-BadImage.fault) refl
-    tt (rw c.in-Err-BadImage.field-0-is at c.in-Err-BadImage.ensures.reads) start.result start.ensures.starts start.ensures.boards start.ensures.err
+    tt (rw c.in-Err-BadImage.field-0-is at c.in-Err-BadImage.ensures.reads) start.result (rw c.in-Err-BadImage.fault-is at start.ensures.starts) start.ensures.boards start.ensures.err

@@ -1,4 +1,4 @@
-use Rattle.std.proofs.Common.{◌≡◌, ℕ, List, Option, Some, Err, inr, refl, sym, ap, ◌∙◌, subst}
+use Rattle.std.proofs.Common.{◌≡◌, ℕ, List, Option, Some, Err, inl, inr, sym, ap, ◌∙◌, subst}
 use Rattle.std.specs.Prelude.{IsTrue}
 use Rattle.elf32_loader.specs.LoadedImage.{image_of_loaded}
 use Rattle.program_words.specs.CommandLine.{Request, asked}
@@ -9,6 +9,9 @@ use Rattle.fasttrack_program.specs.Reading.{Known, known_of, Reads}
 use Rattle.fasttrack_program.proofs.OnPlans.{input-takes, program-takes, beside-takes, beside-more, holds-program}
 use Rattle.fasttrack_program.proofs.OnReading.{late-bytes, late-Shown, reads_input-is, reads-all, reads-more}
 use Rattle.fasttrack_program.proofs.subject.read_both.Goals as goal
+
+pub returns-in-Err-clause-found : goal.returns-in-Err-clause-found
+returns-in-Err-clause-found g c = inl c.in-Err.ensures.found
 
 pub returns-in-Err-read_file-clause-found : goal.returns-in-Err-read_file-clause-found
 returns-in-Err-read_file-clause-found g c =
