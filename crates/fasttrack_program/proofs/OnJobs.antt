@@ -64,16 +64,22 @@ module _ (settings : Settings) (input : List ℕ) (jobs : List (Result Image Ans
 module _ (settings : Settings) (input : List ℕ) (known : Option (List ℕ)) (bytes : List ℕ) (agrees : Agrees known bytes) (old new : FoundJobs) where
   pub adds-run : (i : Image) (v : Posted) → image_in bytes ≡ Ok i → IsBoardOf settings input i v → (r : Result (Unit {0}) Answer) → OnOk r (new.starts.items ≡ old.starts.items ++ Starts.Runs ∷ []) → OnOk r (new.boards.items ≡ old.boards.items ++ v ∷ [])
       → IfErr r (λ answer. answer ≡ NoMemory) → AddsJob settings input known old new r
-  adds-run i v loads board (Ok _) more others none =
-      (bytes, agrees, λ jobs h. subst (λ j. Stands settings input (jobs ++ j ∷ []) new.starts.items new.boards.items) (sym loads)
-          (stands-run settings input jobs old.starts.items new.starts.items old.boards.items new.boards.items h i v board more others))
+  adds-run i v loads board (Ok _) more others none = (
+    bytes,
+    agrees,
+    λ jobs h. subst (λ j. Stands settings input (jobs ++ j ∷ []) new.starts.items new.boards.items) (sym loads)
+        (stands-run settings input jobs old.starts.items new.starts.items old.boards.items new.boards.items h i v board more others),
+  )
   adds-run i v loads board (Err a) more others none = inr none
 
   pub adds-refused : (a : Answer) (start : JobStart) → image_in bytes ≡ Err a → start_refusal start ≡ Some a → (r : Result (Unit {0}) Answer) → OnOk r (new.starts.items ≡ old.starts.items ++ start ∷ []) → new.boards.items ≡ old.boards.items
       → IfErr r (λ answer. answer ≡ NoMemory) → AddsJob settings input known old new r
-  adds-refused a start refused names (Ok _) more same none =
-      (bytes, agrees, λ jobs h. subst (λ j. Stands settings input (jobs ++ j ∷ []) new.starts.items new.boards.items) (sym refused)
-          (stands-refused settings input jobs old.starts.items new.starts.items old.boards.items new.boards.items h a start names more same))
+  adds-refused a start refused names (Ok _) more same none = (
+    bytes,
+    agrees,
+    λ jobs h. subst (λ j. Stands settings input (jobs ++ j ∷ []) new.starts.items new.boards.items) (sym refused)
+        (stands-refused settings input jobs old.starts.items new.starts.items old.boards.items new.boards.items h a start names more same),
+  )
   adds-refused a start refused names (Err b) more same none = inr none
 
 -- the file of one name more was read
@@ -223,8 +229,11 @@ module _ (r : Request) (known : Known) (task : r.task ≡ Tasks.Batch) where
   finds-no_list a (inl unread) = inl unread
   finds-no_list a (inr read) =
       let found = found_file known read.0 in
-      inr (found, agrees_file known read.0 read.1,
-          plan-by r found Tasks.Batch task ∙ ap (λ x. after x (λ (ns : List (List ℕ)). after (input_in (not r.no_input) found.input) (λ input. Runs (batch_of r found.images input)))) read.2)
+      inr (
+        found,
+        agrees_file known read.0 read.1,
+        plan-by r found Tasks.Batch task ∙ ap (λ x. after x (λ (ns : List (List ℕ)). after (input_in (not r.no_input) found.input) (λ input. Runs (batch_of r found.images input)))) read.2,
+      )
 
   module _ (names : List (List ℕ)) (list : Reads list_in known.file (Ok names)) where
     pub finds-no_input : (a : Answer) → Reads {A = List ℕ} (input_in (not r.no_input)) known.input (Err a) → FindsJobs r known (Err a)

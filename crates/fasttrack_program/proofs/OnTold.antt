@@ -27,7 +27,7 @@ use Rattle.fasttrack_program.specs.Reading.{Known, AgreesWith, Agrees}
 use Rattle.fasttrack_program.specs.Serving.{plainly, wholly, IsStopped, IsWritten, IsShown, Keeps, IsServed}
 use Rattle.fasttrack_program.specs.Showing.{Showing}
 use Rattle.fasttrack_program.specs.TopCall.{histories_in, most_histories}
-use Rattle.fasttrack_program.proofs.OnJobs.{named-by, as-many}
+use Rattle.fasttrack_program.proofs.OnJobs.{named-by, as-many, left-one, left-none}
 
 -- no more than so many histories go with what was served
 abbrev pub Tells : ℕ → Served → Type 0
@@ -63,14 +63,11 @@ few-histories : (R : Result Image Answer → JobReport → Type 0) (jobs : List 
 few-histories R [] [] h = omega arith
 few-histories R [] (x ∷ xs) h = absurd h
 few-histories R (j ∷ js) [] h = absurd h
-few-histories R (j ∷ js) (x ∷ xs) h = by (history_in x) refl
+few-histories R (j ∷ js) (x ∷ xs) h = by (history_in x) refl (few-histories R js xs h.1)
   where
-    less : length (histories_of_jobs xs) ≤ length js
-    less = few-histories R js xs h.1
-
-    by : (o : Option (List Entry)) → history_in x ≡ o → length (histories_of_jobs (x ∷ xs)) ≤ length (j ∷ js)
-    by None is = rw is (omega (arith, less))
-    by (Some entries) is = rw is (omega (arith, less))
+    by : (o : Option (List Entry)) → history_in x ≡ o → length (histories_of_jobs xs) ≤ length js → length (histories_of_jobs (x ∷ xs)) ≤ length (j ∷ js)
+    by None is less = (let none = left-none x xs is in omega (arith, less, none))
+    by (Some entries) is less = (let one = left-one x xs entries is in omega (arith, less, one))
 
 tells-kept : (most : ℕ) (p : Plan) (old new : Sinks) (v : Served) → Allows most p → Keeps p old new v → Tells most v
 tells-kept most (Refused a) old new v h k = tells-plainly most v a k.0
@@ -100,11 +97,11 @@ allows-batch r known found agrees =
     allows-after 16 (list_in found.file) (λ names. after (input_in (not r.no_input) found.input) (λ input. Runs (batch_of r found.images input)))
     (λ names is. allows-after 16 (input_in (not r.no_input) found.input) (λ input. Runs (batch_of r found.images input))
     (λ input it.
-        let named : names_in found.file ≡ Some names = named-by found.file names is in
-        let few = names-few found.file names named in
-        let same = as-many (λ name bytes. Agrees (known.named name) bytes) names found.images (agrees.images names named) in
-        let mapped = length-map found.images image_in in
-        omega (arith, few, same, mapped)))
+    let named : names_in found.file ≡ Some names = named-by found.file names is in
+    let few = names-few found.file names named in
+    let same = as-many (λ name bytes. Agrees (known.named name) bytes) names found.images (agrees.images names named) in
+    let mapped = length-map found.images image_in in
+    omega (arith, few, same, mapped)))
 
 allows-task : (task : Task) (r : Request) (known : Known) (found : Found) → r.task ≡ task → AgreesWith known found → Allows (most_histories task) (plan_for task r found)
 allows-task Alone r known found e agrees = allows-program 0 r found _ (λ i input. rw e (omega arith))

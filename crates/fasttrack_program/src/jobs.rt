@@ -59,7 +59,13 @@ pub fn find_jobs<F: Files, I: Source>(
         Ok(input) => input,
         Err(answer) => return Err(answer),
     };
-    read_jobs(alloc, files, names.as_slice(), input, settings_of_jobs(request))
+    read_jobs(
+        alloc,
+        files,
+        names.as_slice(),
+        input,
+        settings_of_jobs(request),
+    )
 }
 
 /// The settings of each job's board.

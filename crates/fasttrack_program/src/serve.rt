@@ -225,13 +225,7 @@ pub fn serve_with_workers<
 }
 
 /// Finds the jobs of a batch, runs them, and shows what came of each.
-fn serve_batch<
-    R: Threads + Wait + Clock + Sync,
-    F: Files,
-    I: Source,
-    O: Sink,
-    G: Gate + Sync,
->(
+fn serve_batch<R: Threads + Wait + Clock + Sync, F: Files, I: Source, O: Sink, G: Gate + Sync>(
     rt: &R,
     alloc: Global,
     request: &Request<'_>,

@@ -4,7 +4,6 @@ ghost use Rattle.std.specs.Prelude.{◌≡◌};
 ghost use Rattle.elf32_loader.specs.LoadedImage.{image_of_loaded};
 ghost use Rattle.guest_streams.specs.GuestStreams.{Sinks, with_out};
 ghost use Rattle.track_board.specs.Value.{IsSettings};
-ghost use Rattle.sink_text.specs.TextOnSink.{WritesOn};
 ghost use Rattle.fasttrack_program.specs.Finding.{showing_of};
 ghost use Rattle.fasttrack_program.specs.Promise.{settings_of};
 ghost use Rattle.fasttrack_program.specs.Serving.{IsShown, shown};
@@ -18,8 +17,9 @@ use crate::subject::Subject;
 use check_report::write_checked;
 use elf32_loader::Loaded;
 use guest_streams::OutputFault;
-use host_io::{Failed, Sink, write_whole};
+use host_io::Sink;
 use journal_check::check;
+use sink_text::write_bytes;
 use state_listing::{CountsFault, read_counts, write_states};
 use std::alloc::Global;
 use std::sync::Arc;
@@ -97,19 +97,6 @@ fn show_image<O: Sink>(alloc: Global, text: &[u8], out: &mut O) -> Served
         Ok(image) => shown(write_bytes(image.as_slice(), out)),
         Err(PackFault::Text(place)) => plain(Answer::BadText(place)),
         Err(PackFault::NoMemory) => plain(Answer::NoMemory),
-    }
-}
-
-/// Writes these bytes whole.
-///
-/// # Errors
-/// `Write` where the sink failed. It has a beginning of the bytes then.
-fn write_bytes<O: Sink>(bytes: &[u8], out: &mut O) -> Result<(), OutputFault>
-    ensures { WritesOn O.Sink out.old out.new bytes.now result }
-{
-    match write_whole(out, bytes) {
-        Ok(()) => Ok(()),
-        Err(Failed) => Err(OutputFault::Write),
     }
 }
 

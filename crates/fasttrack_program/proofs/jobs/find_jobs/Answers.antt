@@ -49,7 +49,7 @@ returns-clause-reads g c =
     let names = map string_bytes c.in-Ok.names.items in
     let jobs = rw c.as_slice.ensures.value at c.read_jobs.ensures.jobs in
     let before = reads-task g.F.Files g.I.Source r file c.args.files.now c.read_names.new.files wants (c.in-Ok.ensures.counted.calm (λ e. cc)) c.args.input.now c.read_input.new.input
-        (Ok c.in-Ok-read_input.input) c.in-Ok-read_input.ensures.unread Shown (c.in-Ok-read_input.ensures.counted.calm (λ e. cc)) late-Shown in
+    (Ok c.in-Ok-read_input.input) c.in-Ok-read_input.ensures.unread Shown (c.in-Ok-read_input.ensures.counted.calm (λ e. cc)) late-Shown in
     reads-rest g.F.Files g.I.Source r file c.args.files.now c.read_names.new.files c.read_jobs.new.files c.args.input.now c.read_input.new.input before
     needs list.0 list.1 (subst (λ (t : Task). Holds t list.0) (sym task) (names, list.2)) given.0 given.1 c.in-Ok-read_input.input (ap (λ b. input_in b given.0) (reads_input-is r wants) ∙ given.2)
     FoundJobs c.read_jobs.result (jobs-unread c.settings_of_jobs.result c.in-Ok-read_input.input (g.F.Files.contents c.read_names.new.files) names c.read_jobs.result jobs) c.read_jobs.ensures.counted

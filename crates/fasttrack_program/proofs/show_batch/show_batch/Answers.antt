@@ -24,5 +24,5 @@ returns-in-Ok g c = λ (b : Batch) (s : Sinks) is stands.
     let boards = c.args.jobs.boards.items in
     let are : AreEnds c.args.workers boards c.in-Ok.ends = subst (λ (vs : List Posted). AreEnds c.args.workers vs c.in-Ok.ends) c.from_vec.ensures c.in-Ok.ensures in
     let reports : AreReports b (merged c.as_slice.result.now c.in-Ok.ends) =
-        subst (λ (starts : List JobStart). AreReports b (merged starts c.in-Ok.ends)) (sym c.as_slice.ensures.value) (told-reports b c.args.workers c.args.jobs.starts.items boards c.in-Ok.ends is stands are) in
+    subst (λ (starts : List JobStart). AreReports b (merged starts c.in-Ok.ends)) (sym c.as_slice.ensures.value) (told-reports b c.args.workers c.args.jobs.starts.items boards c.in-Ok.ends is stands are) in
     c.show_ends.ensures b s reports

@@ -17,6 +17,6 @@ returns-in-Err-write_jobs g c = λ (b : Batch) (s : Sinks) are.
     let reports = c.in-Ok.reports in
     let before = with_out g.O.Sink c.args.out.now s in
     let written = WritesText-as {T = Unit {0}} before.out (g.O.Sink.contents c.write_jobs.new.out) before.out_faults (g.O.Sink.faults c.write_jobs.new.out) (jobs_text c.as_slice.result.now) (jobs_text reports.items) (Err c.in-Err-write_jobs.fault)
-        (ap jobs_text c.as_slice.ensures.value) c.in-Err-write_jobs.ensures in
+    (ap jobs_text c.as_slice.ensures.value) c.in-Err-write_jobs.ensures in
     rw (c.plain-in-Err-write_jobs.ensures, c.answer_of_fault.ensures)
     (reports-part b reports (subst (AreReports b) (sym c.in-Ok.ensures) are) before (g.O.Sink.contents c.write_jobs.new.out) (g.O.Sink.faults c.write_jobs.new.out) c.in-Err-write_jobs.fault written)
