@@ -1,11 +1,9 @@
 -- The ends of a batch can be printed
-use Rattle.std.proofs.Common.{◌≡◌, ℕ, List, [], ◌∷◌, All, Option, Some, sym, ap, ◌∙◌}
+use Rattle.std.proofs.Common.{ℕ, List, [], ◌∷◌, All, ap}
 use Rattle.std.specs.Option.{is_some}
-use Rattle.std.specs.List.{AllZip}
 use Rattle.std.proofs.lemmas.List.Elements.{All-nil, All-cons}
-use Rattle.track_board.specs.declared.outcome.Outcome.{Outcome}
 use Rattle.track_board.specs.Value.{Posted}
-use Rattle.job_batch.specs.Ends.{EndsWith, IsEndOf, AreEnds}
+use Rattle.job_batch.specs.Ends.{EndsWith, AreEnds}
 use Rattle.job_batch.specs.declared.ends.JobEnd.{JobEnd}
 use Rattle.job_batch.specs.declared.ends.JobOutcome.{JobOutcome}
 use Rattle.job_batch.specs.declared.ends.JobOutcome.TheVariants.{Done, NoMemory}

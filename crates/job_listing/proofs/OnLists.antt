@@ -1,10 +1,9 @@
 -- The names in a list, as they are read line by line
-use Rattle.std.proofs.Common.{◌≡◌, ◌≢◌, ℕ, zero, suc, ◌+◌, ◌<◌, ◌≤◌, ◌⊎◌, inl, inr, Bool, true, false, ◌&&◌, nat_le, if◌then◌else◌, ◌==◌, List, [], ◌∷◌, ◌++◌, length, map, All, Option, Some, None, IfSome, option_map, option_and_then, refl, sym, ap, ◌∙◌, subst, append_assoc, append-nil, arith, length-append}
+use Rattle.std.proofs.Common.{◌≡◌, ◌≢◌, ℕ, ◌<◌, ◌≤◌, inl, inr, true, false, nat_le, ◌==◌, List, [], ◌∷◌, ◌++◌, length, All, Option, Some, None, IfSome, option_map, option_and_then, refl, sym, ap, ◌∙◌, subst, arith, length-append}
 use Rattle.std.specs.List.{list_all}
 use Rattle.std.specs.Str.{IsUtf8, is_utf8}
-use Rattle.std.proofs.lemmas.Bool.{ne_eqb, eqb-true, eqb-false, le-leb, lt-leb, leb-true, leb-false, and_parts, and_from, and_left, and_right, cond-true, cond-false, cases_Bool, false_from_ne_true}
+use Rattle.std.proofs.lemmas.Bool.{ne_eqb, eqb-true, eqb-false, le-leb, leb-true, and_parts, and_from, and_right, cond-true, cond-false, cases_Bool, false_from_ne_true}
 use Rattle.std.proofs.lemmas.List.Elements.{All-nil, All-cons, All-head, All-tail}
-use Rattle.std.proofs.lemmas.List.Folds.{list_all-append}
 use Rattle.std.proofs.lemmas.Str.{IsUtf8-from_is_utf8, is_utf8-from_IsUtf8}
 use Rattle.job_listing.specs.Lists.{with_byte, lines_in, is_name, are_names, names_of, names_in, IsName, lines_of, IsListOf}
 use Rattle.job_listing.specs.Lines.{BeginsWithName, name_first, HasNoName}
@@ -79,12 +78,12 @@ pub lines-tell : (bytes : List ℕ) (lines : List (List ℕ)) → lines_in bytes
 lines-tell [] lines e = let none : lines ≡ [] = cc in record { each = subst (All IsOneLine) (sym none) (All-nil IsOneLine); is = rw none refl }
 lines-tell (b ∷ bytes) lines e = elim (cases_Bool (b == 10)) [
   | inl is ↦
-    let ten : b ≡ 10 = eqb-true b 10 is in
-    let here = sym (cond-true (b == 10) _ _ is) ∙ e in
-    subst (λ n. Told (n ∷ bytes) lines) (sym ten) (told-feed bytes (lines_in bytes) lines (lines-tell bytes) here)
+      let ten : b ≡ 10 = eqb-true b 10 is in
+      let here = sym (cond-true (b == 10) _ _ is) ∙ e in
+      subst (λ n. Told (n ∷ bytes) lines) (sym ten) (told-feed bytes (lines_in bytes) lines (lines-tell bytes) here)
   | inr not ↦
-    let here = sym (cond-false (b == 10) _ _ not) ∙ e in
-    told-byte b bytes (lines_in bytes) lines (eqb-false b 10 not) (lines-tell bytes) here
+      let here = sym (cond-false (b == 10) _ _ not) ∙ e in
+      told-byte b bytes (lines_in bytes) lines (eqb-false b 10 not) (lines-tell bytes) here
 ]
 
 -- ---- names
@@ -163,12 +162,12 @@ record Kept (lines names : List (List ℕ)) : Type 0 where
 kept : (lines names : List (List ℕ)) → names_of lines ≡ Some names → Kept lines names
 kept lines names e = elim (cases_Bool (are_names lines)) [
   | inl are ↦
-    let here : Some lines ≡ Some names = sym (cond-true (are_names lines) _ _ are) ∙ e in
-    let same : lines ≡ names = cc in
-    record { same = same; are = ap are_names (sym same) ∙ are }
+      let here : Some lines ≡ Some names = sym (cond-true (are_names lines) _ _ are) ∙ e in
+      let same : lines ≡ names = cc in
+      record { same = same; are = ap are_names (sym same) ∙ are }
   | inr not ↦
-    let here : None ≡ Some names = sym (cond-false (are_names lines) _ _ not) ∙ e in
-    absurd (cc)
+      let here : None ≡ Some names = sym (cond-false (are_names lines) _ _ not) ∙ e in
+      absurd (cc)
 ]
 
 list-of : (bytes : List ℕ) (found : Option (List (List ℕ))) (names : List (List ℕ)) → length bytes ≤ 4096 → lines_in bytes ≡ found → option_and_then names_of found ≡ Some names → IsListOf bytes names
@@ -191,8 +190,8 @@ pub list-only : (bytes : List ℕ) (names : List (List ℕ)) → names_in bytes 
 list-only bytes names e = elim (cases_Bool (nat_le (length bytes) 4096)) [
   | inl short ↦ list-of bytes (lines_in bytes) names (leb-true (length bytes) 4096 short) refl (sym (cond-true (nat_le (length bytes) 4096) _ _ short) ∙ e)
   | inr long ↦
-    let here : None ≡ Some names = sym (cond-false (nat_le (length bytes) 4096) _ _ long) ∙ e in
-    absurd (cc)
+      let here : None ≡ Some names = sym (cond-false (nat_le (length bytes) 4096) _ _ long) ∙ e in
+      absurd (cc)
 ]
 
 -- ---- what is said of the names in bytes

@@ -1,9 +1,9 @@
 -- A list as it is read: the names so far, and the rest
-use Rattle.std.proofs.Common.{◌≡◌, ℕ, ◌+◌, ◌<◌, ◌≤◌, Bool, true, false, ◌&&◌, nat_le, ◌==◌, List, [], ◌∷◌, ◌++◌, length, map, Option, Some, None, IfSome, option_map, option_and_then, refl, sym, ap, ◌∙◌, append_assoc, append-nil, arith, length-append}
+use Rattle.std.proofs.Common.{◌≡◌, ℕ, ◌<◌, ◌≤◌, Bool, true, false, ◌==◌, List, [], ◌∷◌, ◌++◌, length, Option, Some, None, IfSome, option_map, refl, sym, ap, ◌∙◌, append_assoc, append-nil, arith, length-append}
 use Rattle.std.specs.List.{list_all}
-use Rattle.std.proofs.lemmas.Bool.{le-leb, lt-leb, and_from, and_left, and_right, cond-true, cond-false}
+use Rattle.std.proofs.lemmas.Bool.{lt-leb, and_from, and_left, and_right, cond-false}
 use Rattle.std.proofs.lemmas.List.Folds.{list_all-append}
-use Rattle.job_listing.specs.Lists.{lines_in, lines_of, is_name, are_names, names_of, names_in}
+use Rattle.job_listing.specs.Lists.{lines_in, is_name, are_names, names_of, names_in}
 use Rattle.job_listing.specs.Lines.{BeginsWithName, name_first, HasNoName}
 use Rattle.job_listing.proofs.OnLists.{lines-tell, short-list, many-names}
 

@@ -1,6 +1,5 @@
 -- What is printed of the jobs of a batch. Numbers are plain decimal; a line feed has the code 10.
 use Rattle.std.specs.Prelude.{ℕ, zero, suc, ◌+◌, List, [], ◌∷◌, ◌++◌, length, Option, Some, None, IsSome, codes}
-use Rattle.elf32_loader.specs.declared.fault.ImageFault.{ImageFault}
 use Rattle.region_ledger.specs.declared.finished.Finished.{Finished}
 use Rattle.report_text.specs.Reports.{named, end_line}
 use Rattle.fault_text.specs.FaultTexts.{fault_text}

@@ -4,7 +4,9 @@ ghost use Rattle.std.specs.Prelude.{◌≤◌, All, IfOk, length};
 ghost use Rattle.job_batch.specs.Ends.{IsFresh};
 ghost use Rattle.job_listing.specs.Listing.{HasEnd, HasFinish};
 
-use crate::{JobReport, JobStart, ListFault, MOST_NAME, MOST_NAMES, join_reports, read_list, write_jobs};
+use crate::{
+    JobReport, JobStart, ListFault, MOST_NAME, MOST_NAMES, join_reports, read_list, write_jobs,
+};
 use basic_types::Bytes;
 use board_events::Entries;
 use elf32_loader::{ImageFault, load};
@@ -33,7 +35,11 @@ fn reads_lists(rt: HostRuntime) -> Result<(), Fail> {
         ("\u{e9}\u{1F9EA}\n", 1, "\u{e9}\u{1F9EA}"),
         ("nul\0\n", 1, "nul\0"),
         ("feed\r\n", 1, "feed\r"),
-        ("1\n2\n3\n4\n5\n6\n7\n8\n9\n10\n11\n12\n13\n14\n15\n16\n", 16, "16"),
+        (
+            "1\n2\n3\n4\n5\n6\n7\n8\n9\n10\n11\n12\n13\n14\n15\n16\n",
+            16,
+            "16",
+        ),
     ];
     for (list, count, last) in table {
         let names = read_list(rt.alloc(), list.as_bytes())?;
@@ -108,12 +114,7 @@ fn tells_faults(rt: HostRuntime) -> Result<(), Fail> {
 // ---- texts
 
 /// A job that ran, with these bytes of its streams and this outcome.
-fn ran(
-    alloc: Global,
-    out: &[u8],
-    notes: &[u8],
-    outcome: JobOutcome,
-) -> Result<JobReport, Fail>
+fn ran(alloc: Global, out: &[u8], notes: &[u8], outcome: JobOutcome) -> Result<JobReport, Fail>
     requires { HasFinish outcome }
     ensures { IfOk result HasEnd }
 {
