@@ -1,8 +1,8 @@
 -- The jobs of a batch: from the files that a list names to what is reported of each
-use Rattle.std.proofs.Common.{◌≡◌, ℕ, zero, suc, ◌+◌, ◌<◌, ◌≤◌, true, false, List, [], ◌∷◌, ◌++◌, length, take, get_or, map, Option, Some, None, Result, Ok, Err, ◌⊎◌, inl, inr, refl, sym, ap, ◌∙◌, subst, append-nil, append_assoc, arith}
+use Rattle.std.proofs.Common.{◌≡◌, ℕ, suc, ◌+◌, ◌<◌, ◌≤◌, List, [], ◌∷◌, ◌++◌, length, take, get_or, map, Option, Some, None, Result, Ok, Err, inl, inr, refl, sym, ap, ◌∙◌, subst, append-nil, append_assoc, arith}
 use Rattle.std.specs.Global.{Global}
-use Rattle.std.specs.Prelude.{All, IfOk, IfErr, OnOk, String, Vec, string_bytes, not, if◌then◌else◌}
-use Rattle.std.specs.List.{AllZip, cons_option, filter_map}
+use Rattle.std.specs.Prelude.{All, IfOk, IfErr, OnOk, String, Vec, string_bytes, not}
+use Rattle.std.specs.List.{AllZip, cons_option}
 use Rattle.std.proofs.Math.ListN.{length-map}
 use Rattle.std.proofs.lemmas.List.{take_more, map-append, get_or-map}
 use Rattle.std.proofs.lemmas.List.Elements.{All-nil, All-cons, filter_map-append}
@@ -21,7 +21,6 @@ use Rattle.job_listing.specs.Lists.{names_in}
 use Rattle.job_listing.specs.Listing.{jobs_text, merged, runs_in}
 use Rattle.job_listing.proofs.OnLists.{names-few}
 use Rattle.job_listing.specs.declared.report.JobReport.{JobReport}
-use Rattle.job_listing.specs.declared.report.JobReport.TheVariants as Reports
 use Rattle.job_listing.specs.declared.report.JobStart.{JobStart}
 use Rattle.job_listing.specs.declared.report.JobStart.TheVariants as Starts
 use Rattle.program_words.specs.CommandLine.{Request}
@@ -34,12 +33,12 @@ use Rattle.fasttrack_program.specs.declared.served.Told.TheVariants.{Each}
 use Rattle.fasttrack_program.specs.Answers.{answer_of_fault}
 use Rattle.fasttrack_program.specs.Finding.{AddsJob, ReadsJobs, IsStartOf, Stands, StandsFor, FindsJobs, images_in, ok_image, start_refusal}
 use Rattle.fasttrack_program.specs.Jobs.{Batch, IsBoardOf, IsReportOf, AreReports, history_in, histories_of_jobs}
-use Rattle.fasttrack_program.specs.Plan.{Found, Plan, Refused, Runs, after, batch_of, image_in, input_in, job_settings, list_in, plan, unless_none}
+use Rattle.fasttrack_program.specs.Plan.{Found, Refused, Runs, after, batch_of, image_in, input_in, job_settings, list_in, plan, unless_none}
 use Rattle.fasttrack_program.specs.Reading.{Agrees, Known, AgreesWith, IsUnread, IsRefusedEarly, Reads}
 use Rattle.fasttrack_program.specs.Serving.{plainly, IsRun, IsServed}
 use Rattle.fasttrack_program.proofs.OnReports.{text_shown, text_stops, text_within}
 use Rattle.fasttrack_program.proofs.OnReading.{late-unread}
-use Rattle.fasttrack_program.proofs.OnPlans.{some_images, some_named, some_bytes, some_agree, found_file, agrees_file, found_both, agrees_both, plan-by, served-plan, served-unread}
+use Rattle.fasttrack_program.proofs.OnPlans.{some_bytes, some_agree, found_file, agrees_file, found_both, agrees_both, plan-by, served-plan, served-unread}
 
 -- ---- jobs that are found one after another
 

@@ -1,7 +1,6 @@
 -- The end of a job is that of its own program alone
-use Rattle.std.proofs.Common.{◌≡◌, ℕ, List, [], ◌++◌, append-nil, refl, sym, ap, ◌∙◌, subst}
+use Rattle.std.proofs.Common.{◌≡◌, ℕ, List, [], append-nil, sym, ap, ◌∙◌, subst}
 use Rattle.speculation.specs.Ledger.{ledger}
-use Rattle.speculation.specs.Machine.{Machine}
 use Rattle.speculation.specs.Record.{Ran, alone, output_of}
 use Rattle.speculation.specs.declared.history.Settings.{Settings}
 use Rattle.speculation.specs.declared.history.Entry.{Entry}

@@ -1,7 +1,7 @@
 -- The histories that a call hands out: no more than its task may
-use Rattle.std.proofs.Common.{◌≡◌, ℕ, ◌+◌, ◌≤◌, Bool, true, false, List, [], ◌∷◌, length, map, Option, Some, None, Result, Ok, Err, ◌⊎◌, inl, inr, refl, sym, ap, ◌∙◌, subst, arith}
+use Rattle.std.proofs.Common.{◌≡◌, ℕ, ◌+◌, ◌≤◌, Bool, true, false, List, [], ◌∷◌, length, Option, Some, None, Result, Ok, Err, ◌⊎◌, inl, inr, refl, sym, subst, arith}
 use Rattle.std.specs.Prelude.{not, if◌then◌else◌}
-use Rattle.std.specs.List.{AllZip, filter_map}
+use Rattle.std.specs.List.{AllZip}
 use Rattle.std.proofs.Math.ListN.{length-map}
 use Rattle.speculation.specs.declared.history.Entry.{Entry}
 use Rattle.speculation.specs.Run.{Mark, marked}
@@ -18,14 +18,11 @@ use Rattle.program_words.specs.declared.request.Task.TheVariants.{Alone, Run, Tr
 use Rattle.fasttrack_program.specs.declared.answer.Answer.{Answer}
 use Rattle.fasttrack_program.specs.declared.answer.Answer.TheVariants.{Shown}
 use Rattle.fasttrack_program.specs.declared.served.Served.{Served}
-use Rattle.fasttrack_program.specs.declared.served.Told.{Told}
 use Rattle.fasttrack_program.specs.declared.served.Told.TheVariants.{Nothing, One, Each}
-use Rattle.fasttrack_program.specs.Jobs.{Batch, IsReportOf, history_in, histories_of_jobs}
-use Rattle.fasttrack_program.specs.Plan.{Found, Plan, Refused, Does, Shows, Runs, after, batch_of, bench_image, image_in, input_in, journal_in, list_in, plan, plan_for, options_of}
-use Rattle.fasttrack_program.specs.Promise.{Given, Promise, promise_of}
+use Rattle.fasttrack_program.specs.Jobs.{IsReportOf, history_in, histories_of_jobs}
+use Rattle.fasttrack_program.specs.Plan.{Found, Plan, Refused, Does, Shows, Runs, after, batch_of, bench_image, image_in, input_in, journal_in, list_in, plan, plan_for}
 use Rattle.fasttrack_program.specs.Reading.{Known, AgreesWith, Agrees}
-use Rattle.fasttrack_program.specs.Serving.{plainly, wholly, IsStopped, IsWritten, IsShown, Keeps, IsServed}
-use Rattle.fasttrack_program.specs.Showing.{Showing}
+use Rattle.fasttrack_program.specs.Serving.{plainly, wholly, IsStopped, IsWritten, Keeps, IsServed}
 use Rattle.fasttrack_program.specs.TopCall.{histories_in, most_histories}
 use Rattle.fasttrack_program.proofs.OnJobs.{named-by, as-many, left-one, left-none}
 

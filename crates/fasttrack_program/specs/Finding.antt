@@ -11,7 +11,7 @@ use Rattle.program_words.specs.CommandLine.{Request}
 use Rattle.speculation.specs.declared.history.Settings.{Settings}
 use Rattle.track_board.specs.Value.{Posted}
 use Rattle.fasttrack_program.specs.Jobs.{IsBoardOf}
-use Rattle.fasttrack_program.specs.Plan.{Found, Plan, Refused, Does, Shows, Runs, batch_of, bytes_in, image_in, input_in, job_settings, list_in, options_of, plan}
+use Rattle.fasttrack_program.specs.Plan.{Found, Plan, Refused, Does, Shows, Runs, batch_of, bytes_in, image_in, input_in, job_settings, options_of, plan}
 use Rattle.fasttrack_program.specs.Promise.{promise_of, settings_of}
 use Rattle.fasttrack_program.specs.Reading.{Known, AgreesWith, Agrees, IsUnread, IsLate, Reads, ReadsInOrder}
 use Rattle.fasttrack_program.specs.Showing.{Showing, OfJournal, OfStates, OfWords, OfText, Tells}

@@ -17,7 +17,6 @@ use Rattle.fasttrack_program.specs.Reading.{Known, AgreesWith}
 use Rattle.fasttrack_program.specs.declared.answer.Answer.{Answer}
 use Rattle.fasttrack_program.specs.declared.answer.Answer.TheVariants.{Shown, ReadFault, WriteFault, NoMemory}
 use Rattle.fasttrack_program.specs.declared.served.Served.{Served}
-use Rattle.fasttrack_program.specs.declared.served.Told.{Told}
 use Rattle.fasttrack_program.specs.declared.served.Told.TheVariants.{Nothing, One, Each}
 
 -- an answer without a history

@@ -1,4 +1,4 @@
-use Rattle.std.proofs.Common.{◌≡◌, List, ℕ, Option, Ok, ap, ◌∙◌, subst}
+use Rattle.std.proofs.Common.{List, ℕ, Option, Ok, ◌∙◌}
 use Rattle.std.specs.Prelude.{string_bytes}
 use Rattle.fasttrack_program.specs.Finding.{AddsJob}
 use Rattle.fasttrack_program.proofs.OnJobs.{stands-more}

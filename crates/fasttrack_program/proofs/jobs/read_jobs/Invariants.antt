@@ -1,4 +1,4 @@
-use Rattle.std.proofs.Common.{◌≡◌, List, Option, take}
+use Rattle.std.proofs.Common.{◌≡◌, take}
 use Rattle.std.specs.Prelude.{map, string_bytes}
 use Rattle.fasttrack_program.specs.Finding.{StandsFor}
 use Rattle.fasttrack_program.proofs.jobs.read_jobs.Given as goal
