@@ -8,7 +8,7 @@ use Rattle.job_listing.specs.declared.names.ListFault.TheVariants.{Form, NoMemor
 
 -- ---- lines
 
--- the lines, with this byte before the first of them; none where no line is there that it could belong to
+-- this byte before the first of the lines; none where there is no line
 abbrev pub with_byte : ℕ → List (List ℕ) → Option (List (List ℕ))
 with_byte b [] = None
 with_byte b (line ∷ lines) = Some ((b ∷ line) ∷ lines)
