@@ -1,5 +1,6 @@
 pub mod OnBenches
 pub mod OnCompleteness
+pub mod OnFast
 pub mod OnHistories
 pub mod OnImages
 pub mod OnJobs

@@ -10,7 +10,7 @@ use Rattle.guest_streams.specs.declared.fault.OutputFault.TheVariants as F
 use Rattle.guest_streams.proofs.OnStreams.{GetsAll-nothing, StopsShort-amid, GetsPart-of}
 use Rattle.program_words.specs.declared.request.Task.{Task}
 use Rattle.program_words.specs.declared.request.Task.TheVariants as Tasks
-use Rattle.program_words.specs.declared.request.Task.TheVariants.{Alone, Run, Trial, Bench, Check, Batch as BatchTask, At, Pack}
+use Rattle.program_words.specs.declared.request.Task.TheVariants.{Alone, Fast, Run, Trial, Bench, Check, Batch as BatchTask, At, Pack}
 use Rattle.fasttrack_program.specs.declared.answer.Answer.{Answer}
 use Rattle.fasttrack_program.specs.declared.answer.Answer.TheVariants.{Shown, WriteFault, NoMemory}
 use Rattle.fasttrack_program.specs.declared.served.Served.{Served}
@@ -18,7 +18,7 @@ use Rattle.fasttrack_program.specs.declared.served.Told.TheVariants.{Each}
 use Rattle.fasttrack_program.specs.Answers.{answer_of, answer_of_fault}
 use Rattle.job_listing.specs.Listing.{jobs_text}
 use Rattle.fasttrack_program.specs.Jobs.{Batch}
-use Rattle.fasttrack_program.specs.Promise.{Given, Promise, alone_on, promise_of, IsHistory}
+use Rattle.fasttrack_program.specs.Promise.{Given, Promise, alone_on, fast_on, promise_of, IsHistory}
 use Rattle.fasttrack_program.specs.Reading.{IsLate}
 use Rattle.fasttrack_program.specs.Serving.{plainly, wholly, IsWritten, IsShown, KeepsPromise, IsRun}
 use Rattle.fasttrack_program.specs.Showing.{Showing, OfJournal, OfStates, OfWords, OfText, Tells}
@@ -64,6 +64,7 @@ late-end E.Spent = (λ is. cc, λ early. early)
 
 late-task : (task : Task) (g : Given) → IsLate ((promise_of task).answer g)
 late-task Alone g = late-end (end_of (alone_on g).end)
+late-task Fast g = late-end (end_of (fast_on g).end)
 late-task Run g = late-end (end_of (alone_on g).end)
 late-task Trial g = (λ is. cc, λ early. early)
 late-task (Bench number) g = (λ is. cc, λ early. early)

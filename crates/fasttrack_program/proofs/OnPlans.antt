@@ -11,7 +11,7 @@ use Rattle.job_listing.specs.Lists.{names_in}
 use Rattle.program_words.specs.CommandLine.{Request}
 use Rattle.program_words.specs.declared.request.Task.{Task}
 use Rattle.program_words.specs.declared.request.Task.TheVariants as Tasks
-use Rattle.program_words.specs.declared.request.Task.TheVariants.{Alone, Run, Trial, Bench, Check, Batch, At, Pack}
+use Rattle.program_words.specs.declared.request.Task.TheVariants.{Alone, Fast, Run, Trial, Bench, Check, Batch, At, Pack}
 use Rattle.fasttrack_program.specs.declared.served.Served.{Served}
 use Rattle.fasttrack_program.specs.declared.answer.Answer.{Answer}
 use Rattle.fasttrack_program.specs.declared.answer.Answer.TheVariants.{Usage}
@@ -89,6 +89,7 @@ plan-by r found task e = ap (λ t. plan_for t r found) e
 
 pub no_bench : (task : Task) → ((number : ℕ) → task ≡ Bench number → ⊥) → IsTrue (runs_guest task) → IsTrue (runs_file task)
 no_bench Alone h k = refl
+no_bench Fast h k = refl
 no_bench Run h k = refl
 no_bench Trial h k = refl
 no_bench (Bench number) h k = absurd (h number refl)
@@ -101,6 +102,7 @@ no_bench Pack h k = absurd (cc)
 -- such a task reads a program, each task that does the input, and each task that does a file
 pub file-takes : (task : Task) → IsTrue (runs_file task) → IsTrue (takes_program task)
 file-takes Alone h = refl
+file-takes Fast h = refl
 file-takes Run h = refl
 file-takes Trial h = refl
 file-takes (Bench number) h = absurd (cc)
@@ -112,6 +114,7 @@ file-takes Pack h = absurd (cc)
 
 pub program-takes : (task : Task) → IsTrue (takes_program task) → IsTrue (takes_input task)
 program-takes Alone h = refl
+program-takes Fast h = refl
 program-takes Run h = refl
 program-takes Trial h = refl
 program-takes (Bench number) h = absurd (cc)
@@ -124,6 +127,7 @@ program-takes Pack h = absurd (cc)
 -- the file of its program is not refused
 pub holds-program : (task : Task) → IsTrue (takes_program task) → (file : List ℕ) (i : Image) → image_in file ≡ Ok i → Holds task file
 holds-program Alone h file i loads = (i, loads)
+holds-program Fast h file i loads = (i, loads)
 holds-program Run h file i loads = (i, loads)
 holds-program Trial h file i loads = (i, loads)
 holds-program (Bench number) h file i loads = absurd (cc)
@@ -135,6 +139,7 @@ holds-program Pack h file i loads = absurd (cc)
 
 pub input-takes : (task : Task) → IsTrue (takes_input task) → IsTrue (takes_file task)
 input-takes Alone h = refl
+input-takes Fast h = refl
 input-takes Run h = refl
 input-takes Trial h = refl
 input-takes (Bench number) h = absurd (cc)
@@ -146,6 +151,7 @@ input-takes Pack h = absurd (cc)
 
 pub beside-takes : (task : Task) → IsTrue (takes_beside task) → IsTrue (takes_program task)
 beside-takes Alone h = absurd (cc)
+beside-takes Fast h = absurd (cc)
 beside-takes Run h = absurd (cc)
 beside-takes Trial h = absurd (cc)
 beside-takes (Bench number) h = absurd (cc)
@@ -157,6 +163,7 @@ beside-takes Pack h = absurd (cc)
 
 pub beside-more : (task : Task) → IsTrue (takes_beside task) → IsTrue (takes_more task)
 beside-more Alone h = absurd (cc)
+beside-more Fast h = absurd (cc)
 beside-more Run h = absurd (cc)
 beside-more Trial h = absurd (cc)
 beside-more (Bench number) h = absurd (cc)
@@ -169,6 +176,7 @@ beside-more Pack h = absurd (cc)
 -- a task with tracks runs a guest
 pub tracks-run : (task : Task) → IsTrue (promise_of task).has_tracks → IsTrue (runs_guest task)
 tracks-run Alone h = refl
+tracks-run Fast h = refl
 tracks-run Run h = refl
 tracks-run Trial h = refl
 tracks-run (Bench number) h = refl
@@ -180,6 +188,7 @@ tracks-run Pack h = absurd (cc)
 
 file-plan_by : (r : Request) (found : Found) (task : Task) → IsTrue (runs_file task) → plan_for task r found ≡ with_program r found (guest_plan r)
 file-plan_by r found Alone h = refl
+file-plan_by r found Fast h = refl
 file-plan_by r found Run h = refl
 file-plan_by r found Trial h = refl
 file-plan_by r found (Bench number) h = absurd (cc)

@@ -14,7 +14,7 @@ use Rattle.job_listing.proofs.OnLists.{names-few}
 use Rattle.program_words.specs.CommandLine.{Request}
 use Rattle.program_words.specs.declared.request.Task.{Task}
 use Rattle.program_words.specs.declared.request.Task.TheVariants as Tasks
-use Rattle.program_words.specs.declared.request.Task.TheVariants.{Alone, Run, Trial, Bench, Check, Batch as BatchTask, At, Pack}
+use Rattle.program_words.specs.declared.request.Task.TheVariants.{Alone, Fast, Run, Trial, Bench, Check, Batch as BatchTask, At, Pack}
 use Rattle.fasttrack_program.specs.declared.answer.Answer.{Answer}
 use Rattle.fasttrack_program.specs.declared.answer.Answer.TheVariants.{Shown}
 use Rattle.fasttrack_program.specs.declared.served.Served.{Served}
@@ -102,6 +102,7 @@ allows-batch r known found agrees =
 
 allows-task : (task : Task) (r : Request) (known : Known) (found : Found) → r.task ≡ task → AgreesWith known found → Allows (most_histories task) (plan_for task r found)
 allows-task Alone r known found e agrees = allows-program 0 r found _ (λ i input. rw e (omega arith))
+allows-task Fast r known found e agrees = allows-program 0 r found _ (λ i input. rw e (omega arith))
 allows-task Run r known found e agrees = allows-program 1 r found _ (λ i input. rw e (omega arith))
 allows-task Trial r known found e agrees = allows-program 0 r found _ (λ i input. rw e (omega arith))
 allows-task (Bench number) r known found e agrees = allows-after 1 (bench_image number) _ (λ i is. rw e (omega arith))

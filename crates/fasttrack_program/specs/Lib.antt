@@ -1,6 +1,7 @@
 pub mod AnswerLine
 pub mod Answers
 pub mod Completeness
+pub mod FastProgram
 pub mod Finding
 pub mod Jobs
 pub mod Plan

@@ -12,8 +12,9 @@ use Rattle.guest_streams.specs.GuestStreams.{end_of}
 use Rattle.worker_gate.specs.Histories.{IsRunHistory}
 use Rattle.program_words.specs.declared.request.Task.{Task}
 use Rattle.program_words.specs.declared.request.Task.TheVariants as Tasks
-use Rattle.program_words.specs.declared.request.Task.TheVariants.{Alone, Run, Trial, Bench, Check, Batch, At, Pack}
+use Rattle.program_words.specs.declared.request.Task.TheVariants.{Alone, Fast, Run, Trial, Bench, Check, Batch, At, Pack}
 use Rattle.fasttrack_program.specs.Answers.{answer_of}
+use Rattle.fasttrack_program.specs.FastProgram.{Place, program_fast}
 use Rattle.journal_check.specs.Journals.{journal_text}
 use Rattle.fasttrack_program.specs.Reports.{program_report, bench_report}
 use Rattle.fasttrack_program.specs.declared.options.Options.{Options}
@@ -42,6 +43,10 @@ alone_on g = program_alone g.image g.input g.options.budget
 abbrev pub own_end : Given → Answer
 own_end g = answer_of (end_of (alone_on g).end)
 
+-- the same with its fast versions alone
+abbrev pub fast_on : Given → Ran Place End
+fast_on g = program_fast g.image g.input g.options.budget
+
 -- the texts that are asked for behind the guest's output: the report, then the journal of these entries
 abbrev pub texts_behind : Given → List Entry → List ℕ
 texts_behind g entries =
@@ -56,12 +61,18 @@ no_promise = record {
 }
 
 -- `alone` and `run` pass on the output of the program alone, `run` with the texts behind it, and end as the program does.
+-- `fast` does the same of the program with its fast versions alone.
 -- `trial` and `bench` drop the output, and write a report instead.
 abbrev pub promise_of : Task → Promise
 promise_of Alone = record {
   has_tracks = false;
   writes = λ g entries. output_of (alone_on g);
   answer = own_end;
+}
+promise_of Fast = record {
+  has_tracks = false;
+  writes = λ g entries. output_of (fast_on g);
+  answer = λ g. answer_of (end_of (fast_on g).end);
 }
 promise_of Run = record {
   has_tracks = true;

@@ -3,12 +3,13 @@ use Rattle.std.specs.Prelude.{◌≡◌, ℕ, if◌then◌else◌, List, Option,
 use Rattle.std.specs.Global.{Global}
 use Rattle.speculation.specs.declared.history.Entry.{Entry}
 use Rattle.speculation.specs.Run.{Mark, marked}
+use Rattle.guest_model.specs.declared.end.End.{End}
 use Rattle.guest_streams.specs.GuestStreams.{Sinks, GetsAll, GetsPart, StopsShort}
 use Rattle.guest_streams.specs.declared.fault.OutputFault.{OutputFault}
 use Rattle.job_listing.specs.declared.report.JobReport.{JobReport}
 use Rattle.job_listing.specs.Listing.{jobs_text}
 use Rattle.program_words.specs.CommandLine.{Request}
-use Rattle.fasttrack_program.specs.Answers.{answer_of_fault}
+use Rattle.fasttrack_program.specs.Answers.{answer_of, answer_of_fault}
 use Rattle.fasttrack_program.specs.Plan.{Found, Plan, Refused, Does, Shows, Runs, plan}
 use Rattle.fasttrack_program.specs.Jobs.{Batch, AreReports}
 use Rattle.fasttrack_program.specs.Showing.{Showing, Tells}
@@ -22,6 +23,11 @@ use Rattle.fasttrack_program.specs.declared.served.Told.TheVariants.{Nothing, On
 -- an answer without a history
 abbrev pub plainly : Answer → Served
 plainly a = record { answer = a; told = Nothing }
+
+-- the answer of a guest that was run alone
+abbrev pub ended : Result End OutputFault → Served
+ended (Ok e) = plainly (answer_of e)
+ended (Err fault) = plainly (answer_of_fault fault)
 
 -- the answer of a promise that is kept whole, with its history
 abbrev pub wholly : Promise → Given → List Entry → Served

@@ -53,7 +53,7 @@ pub fn run_alone<O: Sink, N: Sink>(
 /// `Write` where the sink failed, which has a beginning of the bytes then, and `NoMemory` where there was no room for them
 /// in `buffer`; nothing is written then.
 #[cold]
-fn pass_on<O: Sink, N: Sink>(
+pub fn pass_on<O: Sink, N: Sink>(
     memory: &FlatMemory,
     stream: u8,
     at: u32,

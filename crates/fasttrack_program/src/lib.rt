@@ -5,6 +5,7 @@ mod alone;
 mod answer;
 mod answer_line;
 mod boards;
+mod fast;
 mod guest;
 mod histories;
 mod jobs;

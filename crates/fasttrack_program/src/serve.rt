@@ -1,19 +1,24 @@
 //! One call of the program up to its answer's line.
 
-ghost use Rattle.std.specs.Prelude.{◌≡◌, ◌≢◌, ◌≤◌, Some, IsTrue, false};
+ghost use Rattle.std.specs.Prelude.{◌≡◌, ◌≢◌, ◌≤◌, IfOk, Some, IsTrue, false};
+ghost use Rattle.elf32_loader.specs.LoadedImage.{image_of_loaded};
+ghost use Rattle.guest_model.specs.Flat.{flat_bytes};
+ghost use Rattle.guest_model.specs.Image.{start_of};
+ghost use Rattle.guest_model.specs.MachineState.{flat};
 ghost use Rattle.guest_streams.specs.GuestStreams.{Sinks, sinks_of, with_out};
 ghost use Rattle.program_words.specs.CommandLine.{HasFile, asked};
-ghost use Rattle.program_words.specs.declared.request.Task.TheVariants.{Alone, Batch};
+ghost use Rattle.program_words.specs.declared.request.Task.TheVariants.{Alone, Batch, Fast};
 ghost use Rattle.track_board.specs.Value.{IsSettings};
 ghost use Rattle.fasttrack_program.specs.Plan.{options_of, runs_guest, shows};
 ghost use Rattle.fasttrack_program.specs.Promise.{promise_of, settings_of};
 ghost use Rattle.fasttrack_program.specs.Reading.{ReadsInOrder, known_of};
-ghost use Rattle.fasttrack_program.specs.Serving.{IsServed, KeepsPromise};
+ghost use Rattle.fasttrack_program.specs.Serving.{IsServed, KeepsPromise, ended};
 ghost use Rattle.fasttrack_program.specs.TopCall.{needs_workers};
 ghost use Rattle.fasttrack_program.specs.Tracks.{given_of};
 
 use crate::alone::run_alone;
 use crate::answer::{Answer, answer_of, answer_of_fault};
+use crate::fast::run_fast;
 use crate::guest::{LoadedGuest, find_guest};
 use crate::jobs::find_jobs;
 use crate::options::{Options, options_in};
@@ -24,7 +29,9 @@ use crate::show_bench::{show_bench, show_bench_with_workers};
 use crate::show_run::{show_run, show_run_with_workers};
 use crate::show_trial::show_trial;
 use crate::subject::find_subject;
-use guest_model::{FlatMemory, Regs, State};
+use elf32_loader::Loaded;
+use guest_model::{End, FlatMemory, NoMemory, Regs, State};
+use guest_streams::OutputFault;
 use host_io::{Files, Sink, Source};
 use program_words::{Request, Task};
 use std::alloc::Global;
@@ -44,18 +51,52 @@ fn show_alone<O: Sink, N: Sink>(
     ensures { KeepsPromise (promise_of Alone) (given_of guest.now.loaded guest.now.input options.now)
         (sinks_of O.Sink N.Sink out.old notes.old) (sinks_of O.Sink N.Sink out.new notes.new) result }
 {
-    let loaded = &guest.loaded;
-    let Ok(memory) = FlatMemory::from_areas(alloc, loaded.areas.as_slice()) else {
+    let Ok(mut state) = start(alloc, &guest.loaded) else {
         return plain(Answer::NoMemory);
     };
-    let mut state = State {
-        regs: Regs::start(loaded.entry),
-        memory,
-        place: 0,
-        heap: loaded.heap,
+    let input = guest.input.as_slice();
+    ended(run_alone(alloc, &mut state, input, options.budget, out, notes))
+}
+
+/// The task `fast`: runs a guest alone, with the fast versions of its regions.
+fn show_fast<O: Sink, N: Sink>(
+    alloc: Global,
+    guest: &LoadedGuest,
+    options: &Options,
+    out: &mut O,
+    notes: &mut N,
+) -> Served
+    ensures { KeepsPromise (promise_of Fast) (given_of guest.now.loaded guest.now.input options.now)
+        (sinks_of O.Sink N.Sink out.old notes.old) (sinks_of O.Sink N.Sink out.new notes.new) result }
+{
+    let Ok(mut state) = start(alloc, &guest.loaded) else {
+        return plain(Answer::NoMemory);
     };
     let input = guest.input.as_slice();
-    match run_alone(alloc, &mut state, input, options.budget, out, notes) {
+    ended(run_fast(alloc, &mut state, input, options.budget, out, notes))
+}
+
+/// The state in which a guest starts.
+///
+/// # Errors
+/// `NoMemory` where there is no room for its memory.
+fn start(alloc: Global, loaded: &Loaded) -> Result<State<FlatMemory>, NoMemory>
+    ensures state { IfOk result (λ s. flat flat_bytes s ≡ start_of (image_of_loaded loaded.now)) }
+    ensures place { IfOk result (λ s. s.place ≡ 0) }
+{
+    Ok(State {
+        regs: Regs::start(loaded.entry),
+        memory: FlatMemory::from_areas(alloc, loaded.areas.as_slice())?,
+        place: 0,
+        heap: loaded.heap,
+    })
+}
+
+/// How the call ends whose guest was run alone.
+fn ended(ran: Result<End, OutputFault>) -> Served
+    ensures { result ≡ ended ran }
+{
+    match ran {
         Ok(end) => plain(answer_of(end)),
         Err(fault) => plain(answer_of_fault(fault)),
     }
@@ -78,6 +119,7 @@ fn do_task<O: Sink, N: Sink>(
 {
     match task {
         Task::Alone => show_alone(alloc, &guest, options, out, notes),
+        Task::Fast => show_fast(alloc, &guest, options, out, notes),
         Task::Run => show_run(alloc, guest, options, out, notes),
         Task::Trial => show_trial(alloc, &guest, options, out),
         Task::Bench(number) => show_bench(alloc, number, guest, options, out),

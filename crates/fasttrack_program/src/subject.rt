@@ -81,7 +81,9 @@ pub fn find_subject<F: Files, I: Source>(
                 Err(answer) => Err(answer),
             }
         }
-        Task::Alone | Task::Run | Task::Trial | Task::Bench(_) | Task::Batch => unreachable!(),
+        Task::Alone | Task::Fast | Task::Run | Task::Trial | Task::Bench(_) | Task::Batch => {
+            unreachable!()
+        }
     }
 }
 

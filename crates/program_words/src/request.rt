@@ -15,6 +15,8 @@ use std::alloc::{AllocError, Global};
 pub enum Task {
     /// Run the program of the image alone.
     Alone,
+    /// Run the program of the image alone, with the fast versions of its regions in place of the originals.
+    Fast,
     /// Run the program of the image with both versions of its regions.
     Run,
     /// Check both versions of each of its regions, and report the ledger.
@@ -139,6 +141,7 @@ fn task_of(name: &str, image: &str, has_file: bool) -> Option<Task>
     ensures { result ≡ task_of name.now image.now has_file }
 {
     match name {
+        "fast" => Some(Task::Fast),
         "run" => Some(Task::Run),
         "trial" => Some(Task::Trial),
         "bench" => bench_number(image).map(Task::Bench),

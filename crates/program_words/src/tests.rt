@@ -33,6 +33,7 @@ fn makes_requests(rt: HostRuntime) -> Result<(), Fail> {
     let run = plain(Task::Run, "x");
     let rows = [
         ("alone x", alone),
+        ("fast x", plain(Task::Fast, "x")),
         ("run x", run),
         ("trial x", plain(Task::Trial, "x")),
         ("alone trial", plain(Task::Alone, "trial")),

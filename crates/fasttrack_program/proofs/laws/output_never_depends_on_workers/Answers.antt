@@ -5,7 +5,7 @@ use Rattle.speculation.specs.Record.{output_of}
 use Rattle.speculation.specs.Run.{marked}
 use Rattle.program_words.specs.declared.request.Task.{Task}
 use Rattle.program_words.specs.declared.request.Task.TheVariants as Tasks
-use Rattle.program_words.specs.declared.request.Task.TheVariants.{Alone, Run, Trial, Bench, Check, Batch, At, Pack}
+use Rattle.program_words.specs.declared.request.Task.TheVariants.{Alone, Fast, Run, Trial, Bench, Check, Batch, At, Pack}
 use Rattle.program_words.specs.CommandLine.{Request}
 use Rattle.fasttrack_program.specs.Plan.{Found, shows, plan_for}
 use Rattle.fasttrack_program.specs.Promise.{Given, alone_on, promise_of, texts_behind}
@@ -23,6 +23,7 @@ returns-clause-writes c = by_task
   where
     by_task : (task : Task) (g : Given) (workers : ℕ) (entries others : List Entry) → g.options.journal ≡ false → (promise_of task).writes (with_workers g workers) entries ≡ (promise_of task).writes g others
     by_task Alone g workers entries others h = refl
+    by_task Fast g workers entries others h = refl
     by_task Run g workers entries others h = ap (λ (text : List ℕ). output_of (alone_on g) ++ marked 2 text) (texts g entries others h)
     by_task Trial g workers entries others h = refl
     by_task (Bench number) g workers entries others h = refl
@@ -37,6 +38,7 @@ returns-clause-answers c = by_task
   where
     by_task : (task : Task) (g : Given) (workers : ℕ) → (promise_of task).answer (with_workers g workers) ≡ (promise_of task).answer g
     by_task Alone g workers = refl
+    by_task Fast g workers = refl
     by_task Run g workers = refl
     by_task Trial g workers = refl
     by_task (Bench number) g workers = refl
@@ -55,6 +57,7 @@ returns-clause-texts c = λ request found workers shown. by_task request found w
     by_task r found workers Tasks.List h = refl
     by_task r found workers Pack h = refl
     by_task r found workers Alone h = absurd (cc)
+    by_task r found workers Fast h = absurd (cc)
     by_task r found workers Run h = absurd (cc)
     by_task r found workers Trial h = absurd (cc)
     by_task r found workers (Bench number) h = absurd (cc)
