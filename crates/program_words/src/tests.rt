@@ -184,7 +184,7 @@ fn refuses_other_words(rt: HostRuntime) -> Result<(), Fail> {
         "list x --with y --with z",
         "list",
         "pack",
-        "batch x",
+        "serve x",
     ];
     for line in rows {
         let words = words_of(rt.alloc(), line)?;
