@@ -56,7 +56,7 @@ FollowsPlan (Does p g) old new answer = DoesAll p g old new answer
 FollowsPlan (Shows x) old new answer = ShowsAll x old new answer
 FollowsPlan (Runs b) old new answer = TellsAll b old new answer
 
--- all of the plan was done, for some file and some input, which are those that are known, where they are known
+-- all of the plan was done, for some files and some input, which are those that are known, where they are known
 pub record IsDone (request : Option Request) (known : Known) (old new : Sinks) (answer : Answer) : Type 0 where
   pub found : Found
   pub agrees : AgreesWith known found

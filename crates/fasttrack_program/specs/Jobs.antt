@@ -80,7 +80,7 @@ history_in (Reports.Ran e) = history_of_end e.outcome
 abbrev pub histories_of_jobs : List JobReport → List (List Entry)
 histories_of_jobs reports = filter_map history_in reports
 
--- ---- the same of the program of an image
+-- ---- ends, said of the program of an image by itself
 
 -- the program of an image of this batch, alone within the budget
 abbrev pub job_alone : Batch → Image → Ran MachineState End

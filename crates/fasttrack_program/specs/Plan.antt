@@ -1,4 +1,4 @@
--- What a call of the program is to do, from its words and from what it finds in its image file and in its input
+-- What a call of the program is to do, from its words and from what it reads
 use Rattle.std.specs.Prelude.{ℕ, nat_lt, min, Bool, true, false, not, ◌&&◌, if◌then◌else◌, List, [], length, map, Option, Some, None, Result, Ok, Err}
 use Rattle.elf32_loader.specs.declared.fault.ImageFault.{ImageFault}
 use Rattle.elf32_loader.specs.declared.fault.ImageFault.TheVariants as F
@@ -82,7 +82,7 @@ abbrev pub takes_more : Task → Bool
 takes_more BatchTask = true
 takes_more task = takes_beside task
 
--- whether what stands before them is the program of an image file
+-- whether IMAGE is an image, and the input is read behind it
 abbrev pub takes_program : Task → Bool
 takes_program BatchTask = false
 takes_program task = takes_input task
@@ -208,7 +208,8 @@ plan_for Tasks.List r found = after (image_in found.file) (λ i. Shows (OfWords 
 plan_for Pack r found = Shows (OfText found.file)
 plan_for _ r found = with_program r found (guest_plan r)
 
--- words, the file that IMAGE names, input, the file of `--with`: the first that refuses decides
+-- The first that refuses decides: words, the file that IMAGE names, input, the file of `--with`. A file that a list names
+-- refuses nothing.
 abbrev pub plan : Option Request → Found → Plan
 plan None found = Refused Usage
 plan (Some r) found = plan_for r.task r found

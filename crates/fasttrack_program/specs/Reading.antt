@@ -101,7 +101,7 @@ IsAccepted (Some r) file = Holds r.task file
 
 -- Below, `f` and `i` are the rows of the bounds of files and input: in a clause `F.Files` and `I.Source`.
 module _ {F I : Type 0} (f : FilesRow F) (i : SourceRow I) (request : Option Request) (files files' : F) (input input' : I) where
-  -- the file that IMAGE names could not be read
+  -- a file could not be read, and the input is as it was; which file it was is not told
   pub record FileFails : Type 0 where
     pub wanted : IsTrue (reads_file request)
     pub risen : Rose (f.faults files) (f.faults files')

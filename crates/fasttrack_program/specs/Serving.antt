@@ -64,8 +64,8 @@ pub record KeepsPromise (p : Promise) (g : Given) (old new : Sinks) (s : Served)
   pub history : IsHistory p.has_tracks g entries
   pub kept : IsKept p g entries old new s
 
--- How far the text of a batch was shown, whose reports are of its own jobs. Once all of it is shown, the history of each job
--- that is done is told.
+-- How far the text of a batch was shown, by reports of its own jobs. Once all of it is shown, the history of each job that
+-- is done is told.
 pub record KeepsBatch (b : Batch) (old new : Sinks) (s : Served) : Type 0 where
   pub reports : Vec JobReport Global
   pub are_reports : AreReports b reports.items
@@ -86,7 +86,7 @@ IsStopped old new s = ((s ≡ plainly ReadFault) ⊎ (s ≡ plainly NoMemory)) �
 abbrev pub IsRun : Batch → Sinks → Sinks → Served → Type 0
 IsRun b old new s = ((s ≡ plainly NoMemory) × (new ≡ old)) ⊎ KeepsBatch b old new s
 
--- The plan was kept for some file and some input, which are those that are known, where they are known.
+-- The plan was kept for some files and some input, which are those that are known, where they are known.
 pub record IsServed (request : Option Request) (known : Known) (old new : Sinks) (s : Served) : Type 0 where
   pub found : Found
   pub agrees : AgreesWith known found

@@ -66,7 +66,7 @@ IsRequest request (Err answer) = ((answer ≡ Usage) × (request ≡ None)) ⊎ 
 
 -- ---- workers
 
--- the words ask for workers: for a batch, or for a task with tracks, and at least one
+-- the call may wait: for a batch, with any number of workers, or for a task with tracks and at least one
 abbrev pub task_needs_workers : Task → ℕ → Bool
 task_needs_workers Batch workers = true
 task_needs_workers task workers = (promise_of task).has_tracks && nat_le 1 workers
@@ -75,7 +75,7 @@ abbrev pub needs_workers : Option Request → Bool
 needs_workers None = false
 needs_workers (Some r) = task_needs_workers r.task r.workers
 
--- No answer exactly where the words ask for workers, unless memory ran out before they were read. `untouched` says that
+-- No answer exactly where the call may wait, unless memory ran out before the words were read. `untouched` says that
 -- nothing was read, written or told.
 abbrev pub NoneForWorkers : Option Request → Option Answer → Type 0 → Type 0
 NoneForWorkers request None untouched = IsTrue (needs_workers request) × untouched

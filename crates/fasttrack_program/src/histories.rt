@@ -10,12 +10,12 @@ use crate::served::Told;
 use board_events::Entries;
 use guest_model::NoMemory;
 use job_batch::{JobEnd, JobOutcome};
-use job_listing::JobReport;
+use job_listing::{JobReport, MOST_NAMES};
 use program_words::Task;
 use std::alloc::Global;
 use std::marker::Model;
 
-/// The histories of runs, each a list of entries, in the order in which the runs completed.
+/// The histories that were handed out, each a list of entries, the first that was handed out first.
 #[derive(Debug, Drop)]
 pub struct Histories {
     pub(crate) histories: Vec<Entries>,
@@ -50,7 +50,7 @@ impl Histories {
     }
 }
 
-/// Whether a task is done with tracks, whose history is handed out.
+/// Whether a task keeps a promise with tracks, whose one history is handed out. A batch keeps no promise.
 pub fn has_tracks(task: Task) -> bool
     ensures { result ≡ (promise_of task).has_tracks }
 {
@@ -66,7 +66,7 @@ fn most_histories(task: Task) -> usize
 {
     match task {
         Task::Run | Task::Bench(_) => 1,
-        Task::Batch => 16,
+        Task::Batch => MOST_NAMES,
         _ => 0,
     }
 }

@@ -140,7 +140,8 @@ pub fn output_never_depends_on_workers()
         → (promise_of task).writes (record given { options = record given.options { workers = workers } }) entries ≡ (promise_of task).writes given others }
     ensures answers { (task : Task) (given : Given) (workers : ℕ)
         → (promise_of task).answer (record given { options = record given.options { workers = workers } }) ≡ (promise_of task).answer given }
-    // What the other tasks show doesn't either.
+    // What the tasks that show a text show doesn't either. Of a batch, `jobs_have_their_own_ends` says it of each job that is
+    // done.
     ensures texts { (request : Request) (found : Found) (workers : ℕ) → IsTrue (shows request.task)
         → plan (Some (record request { workers = workers })) found ≡ plan (Some request) found }
 {}

@@ -233,7 +233,7 @@ fn serve_guest<F: Files, I: Source, O: Sink, N: Sink>(
     }
 }
 
-/// Does the task of a request that asks for workers, by these.
+/// Does the task of a request whose call may wait.
 pub fn serve_with_workers<
     R: Threads + Wait + Clock + Sync,
     F: Files,

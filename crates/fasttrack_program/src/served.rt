@@ -14,7 +14,7 @@ pub enum Told {
     Nothing,
     /// That of a run with tracks that completed.
     One(Entries),
-    /// Those of the jobs of a batch that are done.
+    /// The reports of a batch's jobs: the histories of those that are done.
     Each(Vec<JobReport>),
 }
 

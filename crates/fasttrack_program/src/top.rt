@@ -1,4 +1,4 @@
-//! The top calls: words, image, input, the file of `--with`, the task, and the answer's line, in this order.
+//! The top calls: words, the file of IMAGE, input, further files, the task, and the answer's line, in this order.
 
 ghost use Rattle.std.specs.Prelude.{◌≡◌, ◌≤◌, ◌+◌, IfOk, IfSome, Some, length, map, option_map, string_bytes, vec_len, vec_capacity};
 ghost use Rattle.guest_streams.specs.GuestStreams.{sinks_of};
@@ -52,8 +52,8 @@ use worker_gate::Gate;
 ///   (ReadFault). Then the task is done. Of the text that is packed, IMAGE names the file: its first bad line and place
 ///   (BadText) stand behind its read.
 /// - **Reads** (`reads`). Files and input are left alone where the task reads none of them. The input is read behind an image
-///   without a fault, or a list, and the file of `--with`, or those that a list names, behind both. A read that fails is
-///   counted, and ends the call.
+///   without a fault, or a list. Where the input was touched, a file of `--with`, or one that a list names, fails only behind
+///   both. Where the input is as it was, which file failed is not told. A read that fails is counted, and ends the call.
 /// - **Files** (`held`). What `files` hold is as before.
 pub fn fasttrack_main<
     R: Threads + Wait + Clock + Sync,
@@ -175,7 +175,7 @@ fn serve_words_with<
     }
 }
 
-/// All but the end of a call, on one thread. None where the words ask for more.
+/// All but the end of a call, on one thread. None where the call may wait.
 fn serve_words<F: Files, I: Source, O: Sink, N: Sink>(
     alloc: Global,
     words: &[String],
@@ -226,7 +226,8 @@ fn read_request<'a>(
     }
 }
 
-/// Whether a request is one for tracks on more than one thread, as each batch is.
+/// Whether a request is one whose call may wait: one for tracks with workers, or a batch, which goes by locks whatever the
+/// number of workers.
 fn asks_for_workers(request: &Request<'_>) -> bool
     ensures { result ≡ needs_workers (Some (asked request.now)) }
 {

@@ -21,7 +21,7 @@ use worker_gate::{Gate, beside};
 /// Runs the programs of all jobs to their ends with this many workers, each on a thread of its own. Each job has a lock of
 /// its own. A worker goes round the jobs, a round at each, until all are over, and so does the caller, which takes what is
 /// verified to the job's own bytes. Whoever found nothing at any job pauses outside of every lock. A worker for whom there is
-/// no room is left out, and so is its part in one job.
+/// no room is left out; one without room for its pass of a job has no part in that job.
 ///
 /// There is an end for each job, in their order. The bytes of an end are the two streams of a beginning of what that job's
 /// own program alone writes. Where the job is `Done` they are all of it, and the outcome is that of a run of the job's own

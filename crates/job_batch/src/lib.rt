@@ -1,8 +1,8 @@
 //! Many programs over one set of workers: each job has a board and a lock of its own, and each worker goes round the jobs.
 //!
 //! [`batch`] brings the boards of all jobs to their ends and answers an end for each of them, in their order: the bytes that
-//! its program wrote, and its outcome. What comes of a job is the same for every number of workers, for every order in which
-//! they get their turns, and for every choice of the other jobs: the contract says it of each job's own board alone.
+//! its program wrote, and its outcome. What is said of a job holds for every number of workers, for every order in which they
+//! get their turns, and for every choice of the other jobs: the contract speaks of each job's own board alone.
 //!
 //! No contract says that a turn comes, so none says that this call returns.
 #![tactic(auto)]

@@ -7,26 +7,26 @@ use Rattle.job_batch.specs.declared.ends.JobEnd.{JobEnd}
 use Rattle.job_batch.specs.declared.ends.JobOutcome.{JobOutcome}
 use Rattle.job_batch.specs.declared.ends.JobOutcome.TheVariants.{Done, NoMemory}
 use Rattle.job_listing.specs.declared.report.JobReport.{JobReport}
-use Rattle.job_listing.specs.declared.report.JobReport.TheVariants as reports
+use Rattle.job_listing.specs.declared.report.JobReport.TheVariants as Reports
 use Rattle.job_listing.specs.declared.report.JobStart.{JobStart}
-use Rattle.job_listing.specs.declared.report.JobStart.TheVariants as starts
+use Rattle.job_listing.specs.declared.report.JobStart.TheVariants as Starts
 
 -- ---- the reports of a batch
 
 -- how many of the jobs run
 abbrev pub runs_in : List JobStart → ℕ
 runs_in [] = zero
-runs_in (starts.TooLong ∷ jobs) = runs_in jobs
-runs_in (starts.BadImage fault ∷ jobs) = runs_in jobs
-runs_in (starts.Runs ∷ jobs) = suc (runs_in jobs)
+runs_in (Starts.TooLong ∷ jobs) = runs_in jobs
+runs_in (Starts.BadImage fault ∷ jobs) = runs_in jobs
+runs_in (Starts.Runs ∷ jobs) = suc (runs_in jobs)
 
 -- a report for each job: those that run have these ends, in their order
 abbrev pub merged : List JobStart → List JobEnd → List JobReport
 merged [] ends = []
-merged (starts.TooLong ∷ jobs) ends = reports.TooLong ∷ merged jobs ends
-merged (starts.BadImage fault ∷ jobs) ends = reports.BadImage fault ∷ merged jobs ends
-merged (starts.Runs ∷ jobs) [] = []
-merged (starts.Runs ∷ jobs) (end ∷ ends) = reports.Ran end ∷ merged jobs ends
+merged (Starts.TooLong ∷ jobs) ends = Reports.TooLong ∷ merged jobs ends
+merged (Starts.BadImage fault ∷ jobs) ends = Reports.BadImage fault ∷ merged jobs ends
+merged (Starts.Runs ∷ jobs) [] = []
+merged (Starts.Runs ∷ jobs) (end ∷ ends) = Reports.Ran end ∷ merged jobs ends
 
 -- an outcome that was reached has a finish
 abbrev pub HasFinish : JobOutcome → Type 0
@@ -35,9 +35,9 @@ HasFinish NoMemory = Unit {0}
 
 -- a job that ran has an end that can be printed
 abbrev pub HasEnd : JobReport → Type 0
-HasEnd reports.TooLong = Unit {0}
-HasEnd (reports.BadImage fault) = Unit {0}
-HasEnd (reports.Ran end) = HasFinish end.outcome
+HasEnd Reports.TooLong = Unit {0}
+HasEnd (Reports.BadImage fault) = Unit {0}
+HasEnd (Reports.Ran end) = HasFinish end.outcome
 
 -- ---- texts
 
@@ -69,9 +69,9 @@ ran_text number end =
     ++ (stream_text end.out ++ (stream_text end.notes ++ outcome_line end.outcome))
 
 abbrev pub job_text : ℕ → JobReport → List ℕ
-job_text number reports.TooLong = of_job number (codes " image too long" ++ 10 ∷ [])
-job_text number (reports.BadImage fault) = of_job number (codes " bad image: " ++ (fault_text fault ++ 10 ∷ []))
-job_text number (reports.Ran end) = ran_text number end
+job_text number Reports.TooLong = of_job number (codes " image too long" ++ 10 ∷ [])
+job_text number (Reports.BadImage fault) = of_job number (codes " bad image: " ++ (fault_text fault ++ 10 ∷ []))
+job_text number (Reports.Ran end) = ran_text number end
 
 -- the texts of the jobs from this number on
 abbrev pub texts_from : ℕ → List JobReport → List ℕ

@@ -109,7 +109,7 @@ fn outcome_text(alloc: Global, outcome: &JobOutcome) -> Result<String, NoMemory>
     match outcome {
         JobOutcome::Done(outcome) => match &outcome.finished {
             Some(finished) => end_text(alloc, &finished.end),
-            None => Ok(String::new(alloc)),
+            None => unreachable!(),
         },
         JobOutcome::NoMemory => Ok(format!(in alloc; "end no memory\n")?),
     }
