@@ -22,6 +22,8 @@ emulated() { # IMAGE INPUT
     echo "as in qemu: $1"
 }
 
+"$fasttrack" explain roots.elf --no-input > "$got"
+same roots.explain explain roots.elf
 for name in roots memory forms forms-gcc; do trial $name.elf $name.report /dev/null; done
 for name in primes roots memory forms forms-gcc; do emulated $name.elf /dev/null; done
 # These are there once picolibc/build.sh has built them.

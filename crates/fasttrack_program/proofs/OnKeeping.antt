@@ -10,7 +10,7 @@ use Rattle.guest_streams.specs.declared.fault.OutputFault.TheVariants as F
 use Rattle.guest_streams.proofs.OnStreams.{GetsAll-nothing, StopsShort-amid, GetsPart-of}
 use Rattle.program_words.specs.declared.request.Task.{Task}
 use Rattle.program_words.specs.declared.request.Task.TheVariants as Tasks
-use Rattle.program_words.specs.declared.request.Task.TheVariants.{Alone, Fast, Run, Trial, Bench, Check, Batch as BatchTask, At, Pack}
+use Rattle.program_words.specs.declared.request.Task.TheVariants.{Alone, Fast, Run, Trial, Explain, Bench, Check, Batch as BatchTask, At, Pack}
 use Rattle.fasttrack_program.specs.declared.answer.Answer.{Answer}
 use Rattle.fasttrack_program.specs.declared.answer.Answer.TheVariants.{Shown, WriteFault, NoMemory}
 use Rattle.fasttrack_program.specs.declared.served.Served.{Served}
@@ -67,6 +67,7 @@ late-task Alone g = late-end (end_of (alone_on g).end)
 late-task Fast g = late-end (end_of (fast_on g).end)
 late-task Run g = late-end (end_of (alone_on g).end)
 late-task Trial g = (λ is. cc, λ early. early)
+late-task Explain g = (λ is. cc, λ early. early)
 late-task (Bench number) g = (λ is. cc, λ early. early)
 late-task Check g = (λ is. cc, λ early. early)
 late-task BatchTask g = (λ is. cc, λ early. early)

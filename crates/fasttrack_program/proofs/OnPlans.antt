@@ -11,7 +11,7 @@ use Rattle.job_listing.specs.Lists.{names_in}
 use Rattle.program_words.specs.CommandLine.{Request}
 use Rattle.program_words.specs.declared.request.Task.{Task}
 use Rattle.program_words.specs.declared.request.Task.TheVariants as Tasks
-use Rattle.program_words.specs.declared.request.Task.TheVariants.{Alone, Fast, Run, Trial, Bench, Check, Batch, At, Pack}
+use Rattle.program_words.specs.declared.request.Task.TheVariants.{Alone, Fast, Run, Trial, Explain, Bench, Check, Batch, At, Pack}
 use Rattle.fasttrack_program.specs.declared.served.Served.{Served}
 use Rattle.fasttrack_program.specs.declared.answer.Answer.{Answer}
 use Rattle.fasttrack_program.specs.declared.answer.Answer.TheVariants.{Usage}
@@ -92,6 +92,7 @@ no_bench Alone h k = refl
 no_bench Fast h k = refl
 no_bench Run h k = refl
 no_bench Trial h k = refl
+no_bench Explain h k = refl
 no_bench (Bench number) h k = absurd (h number refl)
 no_bench Check h k = absurd (cc)
 no_bench Batch h k = absurd (cc)
@@ -105,6 +106,7 @@ file-takes Alone h = refl
 file-takes Fast h = refl
 file-takes Run h = refl
 file-takes Trial h = refl
+file-takes Explain h = refl
 file-takes (Bench number) h = absurd (cc)
 file-takes Check h = absurd (cc)
 file-takes Batch h = absurd (cc)
@@ -117,6 +119,7 @@ program-takes Alone h = refl
 program-takes Fast h = refl
 program-takes Run h = refl
 program-takes Trial h = refl
+program-takes Explain h = refl
 program-takes (Bench number) h = absurd (cc)
 program-takes Check h = refl
 program-takes Batch h = absurd (cc)
@@ -130,6 +133,7 @@ holds-program Alone h file i loads = (i, loads)
 holds-program Fast h file i loads = (i, loads)
 holds-program Run h file i loads = (i, loads)
 holds-program Trial h file i loads = (i, loads)
+holds-program Explain h file i loads = (i, loads)
 holds-program (Bench number) h file i loads = absurd (cc)
 holds-program Check h file i loads = (i, loads)
 holds-program Batch h file i loads = absurd (cc)
@@ -142,6 +146,7 @@ input-takes Alone h = refl
 input-takes Fast h = refl
 input-takes Run h = refl
 input-takes Trial h = refl
+input-takes Explain h = refl
 input-takes (Bench number) h = absurd (cc)
 input-takes Check h = refl
 input-takes Batch h = refl
@@ -154,6 +159,7 @@ beside-takes Alone h = absurd (cc)
 beside-takes Fast h = absurd (cc)
 beside-takes Run h = absurd (cc)
 beside-takes Trial h = absurd (cc)
+beside-takes Explain h = absurd (cc)
 beside-takes (Bench number) h = absurd (cc)
 beside-takes Check h = refl
 beside-takes Batch h = absurd (cc)
@@ -166,6 +172,7 @@ beside-more Alone h = absurd (cc)
 beside-more Fast h = absurd (cc)
 beside-more Run h = absurd (cc)
 beside-more Trial h = absurd (cc)
+beside-more Explain h = absurd (cc)
 beside-more (Bench number) h = absurd (cc)
 beside-more Check h = refl
 beside-more Batch h = absurd (cc)
@@ -179,6 +186,7 @@ tracks-run Alone h = refl
 tracks-run Fast h = refl
 tracks-run Run h = refl
 tracks-run Trial h = refl
+tracks-run Explain h = refl
 tracks-run (Bench number) h = refl
 tracks-run Check h = absurd (cc)
 tracks-run Batch h = absurd (cc)
@@ -191,6 +199,7 @@ file-plan_by r found Alone h = refl
 file-plan_by r found Fast h = refl
 file-plan_by r found Run h = refl
 file-plan_by r found Trial h = refl
+file-plan_by r found Explain h = refl
 file-plan_by r found (Bench number) h = absurd (cc)
 file-plan_by r found Check h = absurd (cc)
 file-plan_by r found Batch h = absurd (cc)

@@ -26,7 +26,9 @@ use Rattle.region_trial.specs.declared.trial.Trial.{Trial}
 use Rattle.region_trial.proofs.OnTrials.{saves-rows}
 use Rattle.report_text.specs.Reports.{bench_lines}
 use Rattle.guest_streams.specs.GuestStreams.{end_of, Sinks, GetsAll, GetsPart, IsNext, FailsAt, StopsShort}
-use Rattle.fasttrack_program.specs.Reports.{report, reported_verdict, reported_row, reported_ledger, program_report, bench_report}
+use Rattle.region_account.specs.Reported.{reported_row, reported_ledger}
+use Rattle.region_account.proofs.OnReported.{reported_rows-back, end_of-back}
+use Rattle.fasttrack_program.specs.Reports.{report, program_report, bench_report}
 use Rattle.sink_text.specs.TextOnSink.{StoppedInText, WritesText}
 use Rattle.fasttrack_program.specs.Answers.{answer_of_fault}
 use Rattle.fasttrack_program.specs.Promise.{Given, Promise, IsHistory}
@@ -36,39 +38,6 @@ use Rattle.speculation.specs.declared.history.Entry.{Entry}
 use Rattle.guest_streams.specs.declared.fault.OutputFault.{OutputFault}
 use Rattle.guest_streams.specs.declared.fault.OutputFault.TheVariants.{Write, NoMemory}
 use Rattle.guest_streams.proofs.OnStreams.{stream_bytes-own_1, marked-append, IsNext-marked, Gets-on_out}
-
--- ---- the rows of the theory, as they are reported
-
-reported_verdict-back : (v : Verdict) → reported_verdict (core_verdict v) ≡ v
-reported_verdict-back Kept = refl
-reported_verdict-back (Differs d) = refl
-reported_verdict-back Stopped = refl
-reported_verdict-back Late = refl
-
-reported_row-back : (r : Row) → reported_row (ledger_row r) ≡ r
-reported_row-back r = ap (λ v. record r { verdict = v }) (reported_verdict-back r.verdict)
-
-pub reported_rows-back : (rows : List Row) → map reported_row (ledger_rows rows) ≡ rows
-reported_rows-back [] = refl
-reported_rows-back (r ∷ rs) = ap (λ x. x ∷ map reported_row (ledger_rows rs)) (reported_row-back r) ∙ ap (λ xs. r ∷ xs) (reported_rows-back rs)
-
-core_verdict-back : (v : CoreVerdict Difference) → core_verdict (reported_verdict v) ≡ v
-core_verdict-back CoreKept = refl
-core_verdict-back (CoreDiffers d) = refl
-core_verdict-back CoreStopped = refl
-core_verdict-back CoreLate = refl
-
-ledger_row-back : (r : LedgerRow Difference) → ledger_row (reported_row r) ≡ r
-ledger_row-back r = ap (λ v. record r { judged = record r.judged { verdict = v } }) (core_verdict-back r.judged.verdict)
-
-pub ledger_rows-back : (rows : List (LedgerRow Difference)) → ledger_rows (map reported_row rows) ≡ rows
-ledger_rows-back [] = refl
-ledger_rows-back (r ∷ rs) = ap (λ x. x ∷ ledger_rows (map reported_row rs)) (ledger_row-back r) ∙ ap (λ xs. r ∷ xs) (ledger_rows-back rs)
-
-end_of-back : (e : End) → end_of (core_end e) ≡ e
-end_of-back (Exit code) = refl
-end_of-back (Trap trap pc) = refl
-end_of-back Spent = refl
 
 -- The rows are the ledger of the program, and end and count are those of the program alone.
 pub record TellsProgram (i : Image) (input : List ℕ) (budget : ℕ) (rows : List Row) (f : Finished) : Type 0 where

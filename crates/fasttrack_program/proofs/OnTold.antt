@@ -14,7 +14,7 @@ use Rattle.job_listing.proofs.OnLists.{names-few}
 use Rattle.program_words.specs.CommandLine.{Request}
 use Rattle.program_words.specs.declared.request.Task.{Task}
 use Rattle.program_words.specs.declared.request.Task.TheVariants as Tasks
-use Rattle.program_words.specs.declared.request.Task.TheVariants.{Alone, Fast, Run, Trial, Bench, Check, Batch as BatchTask, At, Pack}
+use Rattle.program_words.specs.declared.request.Task.TheVariants.{Alone, Fast, Run, Trial, Explain, Bench, Check, Batch as BatchTask, At, Pack}
 use Rattle.fasttrack_program.specs.declared.answer.Answer.{Answer}
 use Rattle.fasttrack_program.specs.declared.answer.Answer.TheVariants.{Shown}
 use Rattle.fasttrack_program.specs.declared.served.Served.{Served}
@@ -105,6 +105,7 @@ allows-task Alone r known found e agrees = allows-program 0 r found _ (λ i inpu
 allows-task Fast r known found e agrees = allows-program 0 r found _ (λ i input. rw e (omega arith))
 allows-task Run r known found e agrees = allows-program 1 r found _ (λ i input. rw e (omega arith))
 allows-task Trial r known found e agrees = allows-program 0 r found _ (λ i input. rw e (omega arith))
+allows-task Explain r known found e agrees = allows-program 0 r found _ (λ i input. rw e (omega arith))
 allows-task (Bench number) r known found e agrees = allows-after 1 (bench_image number) _ (λ i is. rw e (omega arith))
 allows-task Check r known found e agrees = allows-program 0 r found _ (λ i input. allows-after 0 (journal_in found.beside) _ (λ journal is. tt))
 allows-task BatchTask r known found e agrees = allows-batch r known found agrees

@@ -8,7 +8,7 @@ use Rattle.job_listing.specs.Lists.{names_in}
 use Rattle.program_words.specs.CommandLine.{Request}
 use Rattle.program_words.specs.declared.request.Task.{Task}
 use Rattle.program_words.specs.declared.request.Task.TheVariants as Tasks
-use Rattle.program_words.specs.declared.request.Task.TheVariants.{Alone, Fast, Run, Trial, Bench, Check, Batch as BatchTask, At, Pack}
+use Rattle.program_words.specs.declared.request.Task.TheVariants.{Alone, Fast, Run, Trial, Explain, Bench, Check, Batch as BatchTask, At, Pack}
 use Rattle.speculation.specs.declared.history.Settings.{Settings}
 use Rattle.rv32_asm.specs.Generated.{generated}
 use Rattle.fasttrack_program.specs.Jobs.{Batch}
@@ -52,6 +52,7 @@ runs_file Alone = true
 runs_file Fast = true
 runs_file Run = true
 runs_file Trial = true
+runs_file Explain = true
 runs_file _ = false
 
 -- the tasks that run one guest, and keep a promise

@@ -9,10 +9,11 @@ use Rattle.guest_model.specs.MachineState.{MachineState}
 use Rattle.guest_model.specs.Rv32.{rv32}
 use Rattle.guest_model.specs.declared.end.End.{End}
 use Rattle.guest_streams.specs.GuestStreams.{end_of}
+use Rattle.region_account.specs.Explanation.{explanation}
 use Rattle.worker_gate.specs.Histories.{IsRunHistory}
 use Rattle.program_words.specs.declared.request.Task.{Task}
 use Rattle.program_words.specs.declared.request.Task.TheVariants as Tasks
-use Rattle.program_words.specs.declared.request.Task.TheVariants.{Alone, Fast, Run, Trial, Bench, Check, Batch, At, Pack}
+use Rattle.program_words.specs.declared.request.Task.TheVariants.{Alone, Fast, Run, Trial, Explain, Bench, Check, Batch, At, Pack}
 use Rattle.fasttrack_program.specs.Answers.{answer_of}
 use Rattle.fasttrack_program.specs.FastProgram.{Place, program_fast}
 use Rattle.journal_check.specs.Journals.{journal_text}
@@ -62,7 +63,7 @@ no_promise = record {
 
 -- `alone` and `run` pass on the output of the program alone, `run` with the texts behind it, and end as the program does.
 -- `fast` does the same of the program with its fast versions alone.
--- `trial` and `bench` drop the output, and write a report instead.
+-- `trial`, `explain` and `bench` drop the output, and write a report or an explanation instead.
 abbrev pub promise_of : Task → Promise
 promise_of Alone = record {
   has_tracks = false;
@@ -82,6 +83,11 @@ promise_of Run = record {
 promise_of Trial = record {
   has_tracks = false;
   writes = λ g entries. marked 1 (program_report g.image g.input g.options.budget);
+  answer = λ g. Shown;
+}
+promise_of Explain = record {
+  has_tracks = false;
+  writes = λ g entries. marked 1 (explanation g.image g.input g.options.budget);
   answer = λ g. Shown;
 }
 promise_of (Bench number) = record {

@@ -1,20 +1,15 @@
 -- The report of a program: the rows of its ledger, their totals, and its end; and the summary of a bench
-use Rattle.std.specs.Prelude.{ℕ, if◌then◌else◌, List, [], ◌∷◌, ◌++◌, length, map}
+use Rattle.std.specs.Prelude.{ℕ, if◌then◌else◌, List, [], ◌∷◌, ◌++◌, length}
 use Rattle.speculation.specs.declared.history.Entry.{Entry}
 use Rattle.speculation.specs.Record.{output_of}
-use Rattle.speculation.specs.Ledger.{Row as LedgerRow, ledger}
-use Rattle.speculation.specs.Verdicts.{Verdict as CoreVerdict, Kept as CoreKept, Differs as CoreDiffers, Stopped as CoreStopped, Late as CoreLate}
-use Rattle.guest_model.specs.Image.{Image, program_alone, start_of}
-use Rattle.guest_model.specs.Rv32.{rv32}
-use Rattle.guest_model.specs.declared.difference.Difference.{Difference}
+use Rattle.guest_model.specs.Image.{Image, program_alone}
 use Rattle.guest_model.specs.declared.end.End.{End}
 use Rattle.region_ledger.specs.Ledger.{totals_of}
 use Rattle.region_ledger.specs.declared.finished.Finished.{Finished}
 use Rattle.region_ledger.specs.declared.row.Row.{Row}
-use Rattle.region_ledger.specs.declared.verdict.Verdict.{Verdict}
-use Rattle.region_ledger.specs.declared.verdict.Verdict.TheVariants.{Kept, Differs, Stopped, Late}
 use Rattle.journal_check.specs.Journals.{journal_text}
 use Rattle.report_text.specs.Reports.{row_line, totals_line, end_line, bench_lines}
+use Rattle.region_account.specs.Reported.{reported_ledger}
 use Rattle.guest_streams.specs.GuestStreams.{end_of}
 use Rattle.fasttrack_program.specs.declared.options.Options.{Options}
 
@@ -29,20 +24,6 @@ abbrev pub report : List Row → ℕ → End → List ℕ
 report rows count e = rows_text rows ++ (totals_line (totals_of rows count) ++ end_line e)
 
 -- ---- the report of a program
-
--- a verdict and a row of the theory, as they are reported
-abbrev pub reported_verdict : CoreVerdict Difference → Verdict
-reported_verdict CoreKept = Kept
-reported_verdict (CoreDiffers d) = Differs d
-reported_verdict CoreStopped = Stopped
-reported_verdict CoreLate = Late
-
-abbrev pub reported_row : LedgerRow Difference → Row
-reported_row r = record { number = r.number; at = r.at; pc = r.pc; original = r.original; fast = r.judged.fast; verdict = reported_verdict r.judged.verdict }
-
--- the ledger of the program with this input, within this budget, as it is reported
-abbrev pub reported_ledger : Image → List ℕ → ℕ → List Row
-reported_ledger i input budget = map reported_row (ledger (rv32 input) (start_of i) budget)
 
 -- the ledger, the totals and the end of the program alone with this input, within this budget
 unfoldable pub program_report : Image → List ℕ → ℕ → List ℕ

@@ -1,18 +1,14 @@
 //! Laws about definitions, each the contract of a function that does nothing.
 
-ghost use Rattle.std.specs.Prelude.{◌≡◌, ◌≤◌, ◌⊎◌, ℕ, false, IsTrue, if◌then◌else◌, List, [], ◌++◌, length, map, Ok, Err, Option, Some};
+ghost use Rattle.std.specs.Prelude.{◌≡◌, ◌≤◌, ◌⊎◌, ℕ, false, IsTrue, if◌then◌else◌, List, [], ◌++◌, length, Ok, Err, Option, Some};
 ghost use Rattle.std.specs.List.{AllZip};
 ghost use Rattle.host_io.specs.Faults.{Rose};
 ghost use Rattle.guest_model.specs.Image.{Image, image};
-ghost use Rattle.guest_model.specs.declared.difference.Difference.{Difference};
 ghost use Rattle.program_words.specs.CommandLine.{Request};
 ghost use Rattle.program_words.specs.declared.request.Task.{Task};
 ghost use Rattle.program_words.specs.declared.request.Task.TheVariants as Tasks;
-ghost use Rattle.program_words.specs.declared.request.Task.TheVariants.{Alone, Run, Trial, Bench, Check, At, Pack};
+ghost use Rattle.program_words.specs.declared.request.Task.TheVariants.{Alone, Run, Trial, Explain, Bench, Check, At, Pack};
 ghost use Rattle.guest_streams.specs.GuestStreams.{Sinks, StopsShort};
-ghost use Rattle.region_ledger.specs.Ledger.{ledger_rows};
-ghost use Rattle.region_ledger.specs.declared.row.Row.{Row};
-ghost use Rattle.speculation.specs.Ledger.{Row as LedgerRow};
 ghost use Rattle.speculation.specs.Core.{verified};
 ghost use Rattle.speculation.specs.Events.{event};
 ghost use Rattle.speculation.specs.declared.history.Entry.{Entry};
@@ -31,15 +27,18 @@ ghost use Rattle.fasttrack_program.specs.Plan.{Does, Found, batch_of, bench_imag
 ghost use Rattle.fasttrack_program.specs.Promise.{Given, promise_of, settings_of};
 ghost use Rattle.fasttrack_program.specs.Reading.{Known};
 ghost use Rattle.fasttrack_program.specs.Showing.{Showing, OfJournal, OfStates, OfWords, OfText, Tells};
-ghost use Rattle.fasttrack_program.specs.Reports.{program_report, bench_report, reported_row};
+ghost use Rattle.region_account.specs.Explanation.{explanation};
+ghost use Rattle.fasttrack_program.specs.Reports.{program_report, bench_report};
 ghost use Rattle.sink_text.specs.TextOnSink.{StoppedInText};
 ghost use Rattle.fasttrack_program.specs.declared.answer.Answer.{Answer};
 
-/// Where `trial` or `bench` can't write its report, the count of `out` rose, and `out` got a beginning of the report that
-/// is shorter.
+/// Where `trial` or `bench` can't write its report, or `explain` its explanation, the count of `out` rose, and `out` got a
+/// beginning of it that is shorter.
 pub fn reports_fail_on_out()
     ensures trial { (given : Given) (entries : List Entry) (old new : Sinks) → StopsShort old new ((promise_of Trial).writes given entries)
         → StoppedInText old.out new.out (program_report given.image given.input given.options.budget) × Rose old.out_faults new.out_faults }
+    ensures explain { (given : Given) (entries : List Entry) (old new : Sinks) → StopsShort old new ((promise_of Explain).writes given entries)
+        → StoppedInText old.out new.out (explanation given.image given.input given.options.budget) × Rose old.out_faults new.out_faults }
     ensures bench { (number : ℕ) (given : Given) (entries : List Entry) (old new : Sinks) → StopsShort old new ((promise_of (Bench number)).writes given entries)
         → StoppedInText old.out new.out (bench_report number given.image given.input given.options.budget) × Rose old.out_faults new.out_faults }
 {}
@@ -110,13 +109,6 @@ pub fn bench_images_load()
     ensures { (number : ℕ) → (i : Image) × (bench_image number ≡ Ok i) }
 {}
 
-/// The rows of a ledger and the rows that are reported are as good as each other: there and back is the identity. So the
-/// totals of the rows that are reported are those of the ledger.
-pub fn reported_rows_are_the_ledger()
-    ensures ledger { (rows : List (LedgerRow Difference)) → ledger_rows (map reported_row rows) ≡ rows }
-    ensures reported { (rows : List Row) → map reported_row (ledger_rows rows) ≡ rows }
-{}
-
 /// Fast versions have no effect, right or wrong: `run` promises the output and the end that `alone` promises, whose
 /// program never takes a fast version. What is asked for behind the output is the one difference.
 pub fn fast_versions_have_no_effect()
@@ -125,10 +117,12 @@ pub fn fast_versions_have_no_effect()
     ensures end { (given : Given) → (promise_of Run).answer given ≡ (promise_of Alone).answer given }
 {}
 
-/// A report never depends on how many regions may be open.
+/// A report or an explanation never depends on how many regions may be open.
 pub fn reports_never_depend_on_tracks()
     ensures trial { (given : Given) (tracks : ℕ) (entries : List Entry)
         → (promise_of Trial).writes (record given { options = record given.options { tracks = tracks } }) entries ≡ (promise_of Trial).writes given entries }
+    ensures explain { (given : Given) (tracks : ℕ) (entries : List Entry)
+        → (promise_of Explain).writes (record given { options = record given.options { tracks = tracks } }) entries ≡ (promise_of Explain).writes given entries }
     ensures run { (given : Given) (tracks : ℕ) (entries others : List Entry) → given.options.journal ≡ false
         → (promise_of Run).writes (record given { options = record given.options { tracks = tracks } }) entries ≡ (promise_of Run).writes given others }
 {}

@@ -19,6 +19,7 @@ mod served;
 mod show;
 mod show_batch;
 mod show_bench;
+mod show_explanation;
 mod show_run;
 mod show_trial;
 mod subject;

@@ -26,6 +26,7 @@ use crate::served::{Served, plain};
 use crate::show::show;
 use crate::show_batch::show_batch;
 use crate::show_bench::{show_bench, show_bench_with_workers};
+use crate::show_explanation::show_explanation;
 use crate::show_run::{show_run, show_run_with_workers};
 use crate::show_trial::show_trial;
 use crate::subject::find_subject;
@@ -122,6 +123,7 @@ fn do_task<O: Sink, N: Sink>(
         Task::Fast => show_fast(alloc, &guest, options, out, notes),
         Task::Run => show_run(alloc, guest, options, out, notes),
         Task::Trial => show_trial(alloc, &guest, options, out),
+        Task::Explain => show_explanation(alloc, &guest, options, out),
         Task::Bench(number) => show_bench(alloc, number, guest, options, out),
         Task::Check | Task::Batch | Task::At | Task::List | Task::Pack => unreachable!(),
     }

@@ -81,9 +81,13 @@ pub fn find_subject<F: Files, I: Source>(
                 Err(answer) => Err(answer),
             }
         }
-        Task::Alone | Task::Fast | Task::Run | Task::Trial | Task::Bench(_) | Task::Batch => {
-            unreachable!()
-        }
+        Task::Alone
+        | Task::Fast
+        | Task::Run
+        | Task::Trial
+        | Task::Explain
+        | Task::Bench(_)
+        | Task::Batch => { unreachable!() }
     }
 }
 

@@ -37,7 +37,7 @@ pub fn first_difference<L>(a: &PagedImage, b: &PagedImage, steps: &mut Steps<L>)
 }
 
 /// The lesser of the next pages of both lists, None at the end of both.
-fn next_page(us: &[u32], i: usize, ws: &[u32], j: usize) -> Option<u32>
+pub fn next_page(us: &[u32], i: usize, ws: &[u32], j: usize) -> Option<u32>
     ensures none { IfNone result ((length us.now ≤ i) × (length ws.now ≤ j)) }
     ensures some { IfSome result (IsNextPage us.now i ws.now j) }
 {
@@ -50,7 +50,7 @@ fn next_page(us: &[u32], i: usize, ws: &[u32], j: usize) -> Option<u32>
 }
 
 /// The place after `i` where this page stands at `i`, else `i`.
-fn past_page(pages: &[u32], i: usize, page: u32) -> usize
+pub fn past_page(pages: &[u32], i: usize, page: u32) -> usize
     ensures { PassesPage pages.now i page result }
 {
     if i < pages.len() && pages[i] == page {

@@ -3,4 +3,4 @@
 
 mod compare;
 
-pub use compare::first_difference;
+pub use compare::{first_difference, next_page, past_page};

@@ -105,7 +105,7 @@ IsSupplied with task = HasShortNumber task × HasFile task with
 
 supplied : (name image : Text) (with : Option Text) (task : Task) → task_of name image (is_some with) ≡ Some task → IsSupplied with task
 supplied name image with task e =
-    go (bytes_eq name (codes "fast")) (bytes_eq name (codes "run")) (bytes_eq name (codes "trial")) (bytes_eq name (codes "bench")) (bytes_eq name (codes "check"))
+    go (bytes_eq name (codes "fast")) (bytes_eq name (codes "run")) (bytes_eq name (codes "trial")) (bytes_eq name (codes "explain")) (bytes_eq name (codes "bench")) (bytes_eq name (codes "check"))
     (bytes_eq name (codes "batch")) (bytes_eq name (codes "at")) (bytes_eq name (codes "list")) (bytes_eq name (codes "pack")) e
   where
     plain : (t : Task) → IsSupplied with t → Some t ≡ Some task → IsSupplied with task
@@ -127,20 +127,21 @@ supplied name image with task e =
         let same : t ≡ task = cc in
         subst (IsSupplied (Some file)) same (has refl)
 
-    go : (fast run trial has_number check batch at list pack : Bool)
-        → cond fast (Some Tasks.Fast) (cond run (Some Tasks.Run) (cond trial (Some Tasks.Trial) (cond has_number (option_map Tasks.Bench (bench_number image))
+    go : (fast run trial explain has_number check batch at list pack : Bool)
+        → cond fast (Some Tasks.Fast) (cond run (Some Tasks.Run) (cond trial (Some Tasks.Trial) (cond explain (Some Tasks.Explain) (cond has_number (option_map Tasks.Bench (bench_number image))
         (cond check (then_some (is_some with) Tasks.Check) (cond batch (Some Tasks.Batch) (cond at (then_some (is_some with) Tasks.At)
-        (cond list (Some Tasks.List) (cond pack (Some Tasks.Pack) (Some Tasks.Alone))))))))) ≡ Some task → IsSupplied with task
-    go true r t b c j a l p e = plain Tasks.Fast (tt, tt) e
-    go false true t b c j a l p e = plain Tasks.Run (tt, tt) e
-    go false false true b c j a l p e = plain Tasks.Trial (tt, tt) e
-    go false false false true c j a l p e = bench (bench_number image) refl e
-    go false false false false true j a l p e = filed with Tasks.Check (λ some. (tt, some)) e
-    go false false false false false true a l p e = plain Tasks.Batch (tt, tt) e
-    go false false false false false false true l p e = filed with Tasks.At (λ some. (tt, some)) e
-    go false false false false false false false true p e = plain Tasks.List (tt, tt) e
-    go false false false false false false false false true e = plain Tasks.Pack (tt, tt) e
-    go false false false false false false false false false e = plain Tasks.Alone (tt, tt) e
+        (cond list (Some Tasks.List) (cond pack (Some Tasks.Pack) (Some Tasks.Alone)))))))))) ≡ Some task → IsSupplied with task
+    go true r t x b c j a l p e = plain Tasks.Fast (tt, tt) e
+    go false true t x b c j a l p e = plain Tasks.Run (tt, tt) e
+    go false false true x b c j a l p e = plain Tasks.Trial (tt, tt) e
+    go false false false true b c j a l p e = plain Tasks.Explain (tt, tt) e
+    go false false false false true c j a l p e = bench (bench_number image) refl e
+    go false false false false false true j a l p e = filed with Tasks.Check (λ some. (tt, some)) e
+    go false false false false false false true a l p e = plain Tasks.Batch (tt, tt) e
+    go false false false false false false false true l p e = filed with Tasks.At (λ some. (tt, some)) e
+    go false false false false false false false false true p e = plain Tasks.List (tt, tt) e
+    go false false false false false false false false false true e = plain Tasks.Pack (tt, tt) e
+    go false false false false false false false false false false e = plain Tasks.Alone (tt, tt) e
 
 -- ---- the request
 

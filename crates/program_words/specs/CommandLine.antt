@@ -30,8 +30,8 @@ held text = record { now = text; ref_ptr = (0, 0) }
 -- the commands that there are
 abbrev pub task_names : HeldTexts
 task_names = record {
-  now = held (codes "alone") ∷ (held (codes "fast") ∷ (held (codes "run") ∷ (held (codes "trial") ∷ (held (codes "bench")
-      ∷ (held (codes "check") ∷ (held (codes "batch") ∷ (held (codes "at") ∷ (held (codes "list") ∷ (held (codes "pack") ∷ [])))))))));
+  now = held (codes "alone") ∷ (held (codes "fast") ∷ (held (codes "run") ∷ (held (codes "trial") ∷ (held (codes "explain")
+      ∷ (held (codes "bench") ∷ (held (codes "check") ∷ (held (codes "batch") ∷ (held (codes "at") ∷ (held (codes "list") ∷ (held (codes "pack") ∷ []))))))))));
   ref_ptr = (0, 0);
 }
 
@@ -162,12 +162,13 @@ task_of name image has_file =
     if bytes_eq name (codes "fast") then Some Tasks.Fast else (
     if bytes_eq name (codes "run") then Some Tasks.Run else (
     if bytes_eq name (codes "trial") then Some Tasks.Trial else (
+    if bytes_eq name (codes "explain") then Some Tasks.Explain else (
     if bytes_eq name (codes "bench") then option_map Tasks.Bench (bench_number image) else (
     if bytes_eq name (codes "check") then then_some has_file Tasks.Check else (
     if bytes_eq name (codes "batch") then Some Tasks.Batch else (
     if bytes_eq name (codes "at") then then_some has_file Tasks.At else (
     if bytes_eq name (codes "list") then Some Tasks.List else (
-    if bytes_eq name (codes "pack") then Some Tasks.Pack else Some Tasks.Alone))))))))
+    if bytes_eq name (codes "pack") then Some Tasks.Pack else Some Tasks.Alone)))))))))
 
 abbrev pub request_with : List Row → Task → Request
 request_with rows task = record {

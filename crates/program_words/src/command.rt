@@ -11,8 +11,8 @@ use clap::{Arg, ArgAction, Command};
 use std::alloc::{AllocError, Global};
 
 /// The names that COMMAND may have.
-static TASKS: [&str; 10] = [
-    "alone", "fast", "run", "trial", "bench", "check", "batch", "at", "list", "pack",
+static TASKS: [&str; 11] = [
+    "alone", "fast", "run", "trial", "explain", "bench", "check", "batch", "at", "list", "pack",
 ];
 
 fn command_arg<'a>(alloc: Global) -> Arg<'a>

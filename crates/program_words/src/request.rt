@@ -21,6 +21,8 @@ pub enum Task {
     Run,
     /// Check both versions of each of its regions, and report the ledger.
     Trial,
+    /// The same, and tell of each region that isn't kept why.
+    Explain,
     /// Run the generated program of this number, and report a summary.
     Bench(u32),
     /// Check a journal, the file of `--with`.
@@ -144,6 +146,7 @@ fn task_of(name: &str, image: &str, has_file: bool) -> Option<Task>
         "fast" => Some(Task::Fast),
         "run" => Some(Task::Run),
         "trial" => Some(Task::Trial),
+        "explain" => Some(Task::Explain),
         "bench" => bench_number(image).map(Task::Bench),
         "check" => has_file.then_some(Task::Check),
         "batch" => Some(Task::Batch),

@@ -36,6 +36,7 @@ fn makes_requests(rt: HostRuntime) -> Result<(), Fail> {
         ("fast x", plain(Task::Fast, "x")),
         ("run x", run),
         ("trial x", plain(Task::Trial, "x")),
+        ("explain x", plain(Task::Explain, "x")),
         ("alone trial", plain(Task::Alone, "trial")),
         ("bench 0", plain(Task::Bench(0), "0")),
         ("bench 0000000007", plain(Task::Bench(7), "0000000007")),

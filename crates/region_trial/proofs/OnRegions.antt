@@ -1,5 +1,5 @@
 -- The program from a segment's start, or from an opening call, up to the end of its next region
-use Rattle.std.proofs.Common.{◌≡◌, ◌≢◌, ℕ, zero, suc, ◌+◌, ◌-◌, ◌<◌, ◌≤◌, true, List, [], ◌∷◌, Option, Some, None, refl, sym, ap, ap₂, ◌∙◌, subst, inl, inr, arith}
+use Rattle.std.proofs.Common.{◌≡◌, ◌≢◌, ℕ, zero, suc, ◌+◌, ◌-◌, ◌<◌, ◌≤◌, true, List, [], ◌∷◌, Option, Some, None, nat_eq, refl, sym, ap, ap₂, ◌∙◌, subst, inl, inr, arith}
 use Rattle.std.proofs.lemmas.Bool.{cases_lt, false≢true}
 use Rattle.speculation.specs.declared.tracks.Kind.{Kind}
 use Rattle.speculation.specs.declared.tracks.Kind.TheVariants.{Normal, Fast, Segment}
@@ -23,18 +23,19 @@ use Rattle.guest_model.specs.declared.end.End.{End}
 use Rattle.guest_model.specs.declared.end.End.TheVariants as E
 use Rattle.rv32_law.specs.GuestStates.{IsGuestState}
 use Rattle.rv32_law.proofs.Reached.{IsOwnEnd, point-own_end, point-keeps}
-use Rattle.track_state.specs.Views.{TrackView, begun}
+use Rattle.track_state.specs.Views.{TrackView, view_of, begun, is_at_boundary, stop_by}
+use Rattle.track_state.specs.Transitions.{IsAtBoundary}
 use Rattle.region_ledger.specs.Ledger.{core_end, core_finished, judged, ledger_row}
 use Rattle.region_ledger.specs.declared.row.Row.{Row}
 use Rattle.region_ledger.specs.declared.finished.Finished.{Finished}
-use Rattle.region_trial.specs.declared.reach.Reached.{Reached}
-use Rattle.region_trial.specs.declared.reach.Reached.TheVariants.{Boundary, Ended, Limit}
+use Rattle.region_trial.specs.declared.running.Reached.{Reached}
+use Rattle.region_trial.specs.declared.running.Reached.TheVariants.{Boundary, Ended, Limit}
 use Rattle.region_trial.specs.declared.region.Step.{Step}
 use Rattle.region_trial.specs.declared.region.Step.TheVariants as S
-use Rattle.region_trial.specs.Reached.{IsUnderWay, StandsAt}
+use Rattle.region_trial.specs.Reached.{IsUnderWay, RunsOn, StandsAt, IsClosed}
 use Rattle.region_trial.specs.Finished.{finished_at}
-use Rattle.region_trial.specs.Regions.{Finishes, Passes, Steps}
-use Rattle.region_trial.proofs.OnReach.{end-is}
+use Rattle.region_trial.specs.Regions.{Finishes, IsTried, Passes, Steps}
+use Rattle.region_trial.proofs.OnReach.{boundary-is, end-is}
 use Rattle.region_trial.proofs.OnLedgers.{Going, end-later, taken-ended, then-go, then-taken, never-ended, never-spent}
 
 normal-is : (k : Kind) → k ≡ Normal → k ≢ Segment
@@ -170,26 +171,71 @@ module _ (input : List ℕ) where
   boundary-some s zero h = absurd (false≢true h)
   boundary-some s (suc n) h = omega arith
 
-  -- an original that closed its region: this is its row
-  pub original-passes : (t v : TrackView) (at left number budget : ℕ) (row : Row) → t.kind ≡ Normal → at_fast t.start ≡ true → IsUnderWay input t left → boundary (rv32 input) t.kind t.start t.own ≡ true
-      → ledger_row row ≡ row_at (rv32 input) t.start number at t.own → v ≡ begun Segment t.state budget → Passes input t.start at left number row v budget
-  original-passes t v at left number budget row kind call way here is track =
-      let least : Unstopped (rv32 input) Normal t.start t.own = subst (λ k. Unstopped (rv32 input) k t.start t.own) kind way.least in
-      let closed : boundary (rv32 input) Normal t.start t.own ≡ true = subst (λ k. boundary (rv32 input) k t.start t.own ≡ true) kind here in
-      let point_is : go (rv32 input) (fresh t.start) t.own ≡ fresh t.state = plain-here t (subst (λ k. IsPlain k t.start) (sym kind) (normal-plain t.start)) left way here in
-      let some : 0 < t.own = boundary-some t.start t.own closed in
+  -- ---- an original that closed its region
+
+  module _ (o : TrackView) (h : IsClosed input o) where
+    pub closed-own : 0 < o.own
+    closed-own = boundary-some o.start o.own h.here
+
+    -- where it stands
+    pub closed-here : go (rv32 input) (fresh o.start) o.own ≡ fresh o.state
+    closed-here =
+        let none : o.end ≡ None = sym (end-is input o h.runs) ∙ ap (λ k. (point (rv32 input) k o.start o.own).end) h.kind ∙ boundary-going (rv32 input) Normal o.start o.own h.here in
+        ap (λ k. point (rv32 input) k o.start o.own) (sym h.kind) ∙ h.runs.at ∙ ap (λ (e : Option End). record { state = o.state; end = e }) none
+
+    pub closed-guest : IsGuestState input o.state
+    closed-guest = subst (λ (p : Point MachineState End). IsGuestState input p.state) h.runs.at (point-keeps input o.kind o.start o.own h.start).state
+
+  pub way-closed : (t : TrackView) (left : ℕ) → t.kind ≡ Normal → IsUnderWay input t left → boundary (rv32 input) t.kind t.start t.own ≡ true → IsClosed input t
+  way-closed t left kind way here = record {
+    kind = kind;
+    start = way.start;
+    runs = way.runs;
+    least = subst (λ k. Unstopped (rv32 input) k t.start t.own) kind way.least;
+    here = subst (λ k. boundary (rv32 input) k t.start t.own ≡ true) kind here;
+    within = omega (arith, way.within, way.budget);
+  }
+
+  pub closed-stop : (t : TrackView) → IsClosed input t → IsAtBoundary Normal t
+  closed-stop t h =
+      let here : is_at_boundary t ≡ true = boundary-is input t h.runs ∙ ap (λ k. boundary (rv32 input) k t.start t.own) h.kind ∙ h.here in
+      record { kind = h.kind; stop = ap (λ b. stop_by b t.end (nat_eq t.own t.budget)) here }
+
+  -- its fast version, run on
+  pub tried-is : (o x f : TrackView) → x ≡ begun Fast o.start o.budget → RunsOn input x f o.own → IsTried input o f
+  tried-is o x f began ran = record {
+    kind = ran.kind ∙ ap (λ v. v.kind) began;
+    start = ran.start ∙ ap (λ v. v.start) began;
+    budget = ran.budget ∙ ap (λ v. v.budget) began;
+    way = ran.way;
+  }
+
+  at-once : (s : MachineState) → go (rv32 input) (fresh s) 0 ≡ fresh s
+  unfolding go
+  at-once s = refl
+
+  -- this is its row
+  pub original-passes : (o f : TrackView) (at left number : ℕ) (row : Row) → at_fast o.start ≡ true → IsClosed input o → o.own ≤ left → ledger_row row ≡ row_at (rv32 input) o.start number at o.own → IsTried input o f
+      → Passes input o.start at left number row o f o.budget
+  original-passes o f at left number row call closed within is tried =
+      let start : row.at ≡ at + 0 = omega (arith, ap (λ r. r.at) is) in
+      let count : o.own ≡ row.original = sym (ap (λ r. r.original) is) in
+      let behind : at + o.own ≡ row.at + row.original = omega (arith, start, count) in
+      let rest : left - o.own ≡ left - (0 + row.original) = omega (arith, count) in
       record {
-        state = t.state;
-        count = t.own;
-        behind = ap₂ (λ (a b : ℕ). a + b) (ap (λ r. r.at) is) (ap (λ r. r.original) is);
-        some = some;
-        within = way.within;
-        here = point_is;
-        track = track;
-        guest = way-guest t left way;
+        before = 0;
+        opens = start;
+        there = at-once o.start;
+        original = closed;
+        closes = closed-stop o closed;
+        count = count;
+        within = omega (arith, within, count);
+        budget_is = refl;
+        fast = tried;
         rows =
-            ledger_from-region (rv32 input) left t.start number at t.own call some way.within least closed
-            ∙ ap₂ (λ r (p : Point MachineState End). r ∷ ledger_from (rv32 input) (left - t.own) p.state (suc number) (at + t.own)) (sym is) point_is;
+            ledger_from-region (rv32 input) left o.start number at o.own call (closed-own o closed) within closed.least closed.here
+            ∙ ap₂ (λ r (p : Point MachineState End). r ∷ ledger_from (rv32 input) (left - o.own) p.state (suc number) (at + o.own)) (sym is) (closed-here o closed)
+            ∙ ap₂ (λ l a. ledger_row row ∷ ledger_from (rv32 input) l o.state (suc number) a) rest behind;
       }
 
   -- ---- what follows a segment
@@ -212,30 +258,30 @@ module _ (input : List ℕ) where
               (omega (arith, then-taken (rv32 input) s t own here (left - own), ap (taken (rv32 input) (fresh s)) whole));
         }
 
-    passes-then : (row : Row) (v : TrackView) (budget : ℕ) → Passes input t (at + own) (left - own) number row v budget → Passes input s at left number row v budget
-    passes-then row v budget h =
-        let less : left - own - h.count ≡ left - (own + h.count) = omega arith in
-        let more : at + own + h.count ≡ at + (own + h.count) = omega arith in
+    passes-then : (row : Row) (o f : TrackView) (budget : ℕ) → Passes input t (at + own) (left - own) number row o f budget → Passes input s at left number row o f budget
+    passes-then row o f budget h =
+        let less : left - own - (h.before + row.original) ≡ left - (own + h.before + row.original) = omega arith in
         record {
-          state = h.state;
-          count = own + h.count;
-          behind = omega (arith, h.behind);
-          some = omega (arith, h.some);
-          within = omega (arith, h.within);
-          here = then-go (rv32 input) s t own here h.count ∙ h.here;
-          track = h.track;
-          guest = h.guest;
-          rows = rows-then ∙ h.rows ∙ ap₂ (λ l a. ledger_row row ∷ ledger_from (rv32 input) l h.state (suc number) a) less more;
+          before = own + h.before;
+          opens = omega (arith, h.opens);
+          there = then-go (rv32 input) s t own here h.before ∙ h.there;
+          original = h.original;
+          closes = h.closes;
+          count = h.count;
+          within = omega (arith, h.within, within);
+          budget_is = h.budget_is;
+          fast = h.fast;
+          rows = rows-then ∙ h.rows ∙ ap (λ l. ledger_row row ∷ ledger_from (rv32 input) l o.state (suc number) (row.at + row.original)) less;
         }
 
-    pub steps-then : (step : Step) (v : TrackView) (budget : ℕ) → Steps input t (at + own) (left - own) number step v budget → Steps input s at left number step v budget
-    steps-then (S.Region row) v budget h = passes-then row v budget h
-    steps-then (S.Finished f) v budget h = finishes-then f h
+    pub steps-then : (step : Step) (budget : ℕ) → Steps input t (at + own) (left - own) number step budget → Steps input s at left number step budget
+    steps-then (S.Region r) budget h = passes-then r.row (view_of r.original) (view_of r.fast) budget h
+    steps-then (S.Finished f) budget h = finishes-then f h
 
   -- a segment that came to an opening call, and what follows it
-  pub segment-steps : (t : TrackView) (at left number : ℕ) (step : Step) (v : TrackView) (budget : ℕ) → t.kind ≡ Segment → IsUnderWay input t left → boundary (rv32 input) t.kind t.start t.own ≡ true
-      → Steps input t.state (at + t.own) (left - t.own) number step v budget → Steps input t.start at left number step v budget
-  segment-steps t at left number step v budget kind way here =
+  pub segment-steps : (t : TrackView) (at left number : ℕ) (step : Step) (budget : ℕ) → t.kind ≡ Segment → IsUnderWay input t left → boundary (rv32 input) t.kind t.start t.own ≡ true
+      → Steps input t.state (at + t.own) (left - t.own) number step budget → Steps input t.start at left number step budget
+  segment-steps t at left number step budget kind way here =
       steps-then t.start t.state t.own at left number
       (plain-here t (subst (λ k. IsPlain k t.start) (sym kind) (segment-plain t.start)) left way here)
-      (subst (λ k. Unstopped (rv32 input) k t.start t.own) kind way.least) way.within step v budget
+      (subst (λ k. Unstopped (rv32 input) k t.start t.own) kind way.least) way.within step budget

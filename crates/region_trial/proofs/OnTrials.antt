@@ -24,6 +24,7 @@ use Rattle.region_trial.specs.declared.trial.Trial.{Trial}
 use Rattle.region_trial.specs.Trials.{IsTrialOf}
 use Rattle.region_trial.specs.Regions.{Finishes, Passes}
 use Rattle.region_trial.proofs.OnLedgers.{then-go, then-taken}
+use Rattle.region_trial.proofs.OnRegions.{closed-own, closed-here, closed-guest}
 
 ledger_rows-push : (rows : List Row) (r : Row) → ledger_rows (rows ++ r ∷ []) ≡ ledger_rows rows ++ ledger_row r ∷ []
 ledger_rows-push [] r = refl
@@ -37,48 +38,59 @@ saves-rows [] h = All-nil SavesAtMostAll
 saves-rows (r ∷ rows) h = All-cons SavesAtMostAll r rows (saves-row r h.0) (saves-rows rows h.1)
 
 -- The program that starts in `first` has come to the start of the segment v after `at` instructions, and these are the
--- rows so far.
-pub record SoFar (input : List ℕ) (first : MachineState) (budget at : ℕ) (rows : List Row) (v : TrackView) : Type 0 where
-  pub track : v ≡ begun Segment v.start budget
+-- rows so far. Each track may take `room` instructions.
+pub record SoFar (input : List ℕ) (first : MachineState) (budget room at : ℕ) (rows : List Row) (v : TrackView) : Type 0 where
+  pub track : v ≡ begun Segment v.start room
+  pub roomy : budget ≤ room
   pub guest : IsGuestState input v.start
   pub here : go (rv32 input) (fresh first) at ≡ fresh v.start
   pub within : at ≤ budget
   pub rows_are : ledger (rv32 input) first budget ≡ ledger_rows rows ++ ledger_from (rv32 input) (budget - at) v.start (length rows) at
 
-pub so_far-first : (input : List ℕ) (first : MachineState) (budget : ℕ) (v : TrackView) → IsGuestState input first → v ≡ begun Segment first budget → SoFar input first budget 0 [] v
+pub so_far-first : (input : List ℕ) (first : MachineState) (budget room : ℕ) (v : TrackView) → IsGuestState input first → budget ≤ room → v ≡ begun Segment first room → SoFar input first budget room 0 [] v
 unfolding ledger go
-so_far-first input first budget v guest is =
-    subst (λ w. SoFar input first budget 0 [] w) (sym is)
+so_far-first input first budget room v guest roomy is =
+    subst (λ w. SoFar input first budget room 0 [] w) (sym is)
     (record {
       track = refl;
+      roomy = roomy;
       guest = guest;
       here = refl;
       within = omega arith;
       rows_are = let all : budget - 0 ≡ budget = omega arith in sym (ap (λ left. ledger_from (rv32 input) left first 0 0) all);
     })
 
-module _ (input : List ℕ) (first : MachineState) (budget at : ℕ) (rows : List Row) (v : TrackView) (h : SoFar input first budget at rows v) where
-  pub at-next : (row : Row) (w : TrackView) → Passes input v.start at (budget - at) (length rows) row w v.budget → (at < row.at + row.original) × (row.at + row.original ≤ budget)
-  at-next row w p = (omega (arith, p.behind, p.some), omega (arith, p.behind, p.within, h.within))
+module _ (input : List ℕ) (first : MachineState) (budget room at : ℕ) (rows : List Row) (v : TrackView) (h : SoFar input first budget room at rows v) where
+  module _ (row : Row) (o f : TrackView) (p : Passes input v.start at (budget - at) (length rows) row o f v.budget) where
+    pub at-next : (at < row.at + row.original) × (row.at + row.original ≤ budget)
+    at-next = (omega (arith, p.opens, p.count, closed-own input o p.original), omega (arith, p.opens, p.within, h.within))
 
-  pub so_far-next : (row : Row) (w : TrackView) → Passes input v.start at (budget - at) (length rows) row w v.budget → SoFar input first budget (row.at + row.original) (rows ++ row ∷ []) w
-  so_far-next row w p =
-      let track : w ≡ begun Segment p.state budget = p.track ∙ ap (λ t. begun Segment p.state t.budget) h.track in
-      let size : suc (length rows) ≡ length (rows ++ row ∷ []) = omega (arith, length-append rows (row ∷ [])) in
-      let left : budget - at - p.count ≡ budget - (row.at + row.original) = omega (arith, p.behind) in
-      subst (λ w. SoFar input first budget (row.at + row.original) (rows ++ row ∷ []) w) (sym track)
-      (record {
-        track = refl;
-        guest = p.guest;
-        here = ap (go (rv32 input) (fresh first)) p.behind ∙ then-go (rv32 input) first v.start at h.here p.count ∙ p.here;
-        within = (at-next row w p).1;
-        rows_are =
-            h.rows_are
-            ∙ ap (λ rs. ledger_rows rows ++ rs) (p.rows ∙ ap (λ a. ledger_row row ∷ ledger_from (rv32 input) (budget - at - p.count) p.state (suc (length rows)) a) (sym p.behind)
-            ∙ ap₂ (λ l n. ledger_row row ∷ ledger_from (rv32 input) l p.state n (row.at + row.original)) left size)
-            ∙ sym (append_assoc (ledger_rows rows) (ledger_row row ∷ []) _)
-            ∙ ap (λ rs. rs ++ ledger_from (rv32 input) (budget - (row.at + row.original)) p.state (length (rows ++ row ∷ [])) (row.at + row.original)) (sym (ledger_rows-push rows row));
-      })
+    -- the program at the region's opening call
+    pub opened-at : go (rv32 input) (fresh first) row.at ≡ fresh o.start
+    opened-at = ap (go (rv32 input) (fresh first)) p.opens ∙ then-go (rv32 input) first v.start at h.here p.before ∙ p.there
+
+    -- and at its closing call
+    pub closed-at : go (rv32 input) (fresh first) (row.at + row.original) ≡ fresh o.state
+    closed-at = ap (λ n. go (rv32 input) (fresh first) (row.at + n)) (sym p.count) ∙ then-go (rv32 input) first o.start row.at opened-at o.own ∙ closed-here input o p.original
+
+    pub so_far-next : (w : TrackView) → w ≡ begun Segment o.state o.budget → SoFar input first budget room (row.at + row.original) (rows ++ row ∷ []) w
+    so_far-next w is =
+        let room_is : o.budget ≡ room = p.budget_is ∙ ap (λ t. t.budget) h.track in
+        let size : suc (length rows) ≡ length (rows ++ row ∷ []) = omega (arith, length-append rows (row ∷ [])) in
+        let left : budget - at - (p.before + row.original) ≡ budget - (row.at + row.original) = omega (arith, p.opens) in
+        subst (λ w. SoFar input first budget room (row.at + row.original) (rows ++ row ∷ []) w) (sym (is ∙ ap (λ b. begun Segment o.state b) room_is))
+        (record {
+          track = refl;
+          roomy = h.roomy;
+          guest = closed-guest input o p.original;
+          here = closed-at;
+          within = at-next.1;
+          rows_are =
+              h.rows_are
+              ∙ ap (λ rs. ledger_rows rows ++ rs) (p.rows ∙ ap₂ (λ l n. ledger_row row ∷ ledger_from (rv32 input) l o.state n (row.at + row.original)) left size)
+              ∙ sym (append_assoc (ledger_rows rows) (ledger_row row ∷ []) _)
+              ∙ ap (λ rs. rs ++ ledger_from (rv32 input) (budget - (row.at + row.original)) o.state (length (rows ++ row ∷ [])) (row.at + row.original)) (sym (ledger_rows-push rows row));
+        })
 
   pub trial-is : (l : Loaded) (f : Finished) (t : Trial) → first ≡ start_of (image_of_loaded l) → Finishes input v.start at (budget - at) (length rows) f → t ≡ record { finished = f; rows = rows } → IsTrialOf l input budget t
   trial-is l f t is p same =

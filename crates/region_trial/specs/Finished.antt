@@ -2,8 +2,8 @@
 use Rattle.std.specs.Prelude.{ℕ, Option, Some, None}
 use Rattle.guest_model.specs.declared.end.End.TheVariants.{Spent}
 use Rattle.region_ledger.specs.declared.finished.Finished.{Finished}
-use Rattle.region_trial.specs.declared.reach.Reached.{Reached}
-use Rattle.region_trial.specs.declared.reach.Reached.TheVariants.{Boundary, Ended, Limit}
+use Rattle.region_trial.specs.declared.running.Reached.{Reached}
+use Rattle.region_trial.specs.declared.running.Reached.TheVariants.{Boundary, Ended, Limit}
 
 abbrev pub finished_at : Reached → ℕ → Option Finished
 finished_at Boundary count = None

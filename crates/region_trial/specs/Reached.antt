@@ -7,8 +7,8 @@ use Rattle.guest_model.specs.Rv32.{rv32}
 use Rattle.rv32_law.specs.GuestStates.{IsGuestState}
 use Rattle.track_state.specs.Views.{TrackView}
 use Rattle.track_state.specs.Runs.{RunsOver}
-use Rattle.region_trial.specs.declared.reach.Reached.{Reached}
-use Rattle.region_trial.specs.declared.reach.Reached.TheVariants.{Boundary, Ended, Limit}
+use Rattle.region_trial.specs.declared.running.Reached.{Reached}
+use Rattle.region_trial.specs.declared.running.Reached.TheVariants.{Boundary, Ended, Limit}
 
 -- The track has taken at most `limit` instructions, met nothing before the last of them, and holds no output.
 pub record IsUnderWay (input : List ℕ) (t : TrackView) (limit : ℕ) : Type 0 where

@@ -2,13 +2,15 @@
 //! they give.
 #![tactic(auto)]
 
-mod reach;
 mod region;
+mod running;
 mod trial;
 
 pub use guest_model::NoMemory;
+pub use region::{Region, Step};
 pub use region_ledger::{Finished, Row, Rows};
-pub use trial::{Trial, run_trial};
+pub use running::{Reached, reach};
+pub use trial::{Trial, begin, next_region, run_trial};
 
 #[cfg(test)]
 mod tests;

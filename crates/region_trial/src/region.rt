@@ -11,51 +11,84 @@ ghost use Rattle.rv32_law.specs.GuestStates.{IsGuestState};
 ghost use Rattle.region_ledger.specs.Ledger.{seen, ledger_row};
 ghost use Rattle.track_state.specs.Views.{view_of, begun};
 ghost use Rattle.track_state.specs.Transitions.{IsAtBoundary};
-ghost use Rattle.region_trial.specs.Reached.{IsClosed};
+ghost use Rattle.region_trial.specs.Reached.{IsClosed, RunsOn};
 ghost use Rattle.region_trial.specs.Regions.{Steps};
 
-use crate::reach::{Reached, reach};
+use crate::running::{Reached, reach};
 use basic_types::Steps as Counter;
 use guest_model::{Difference, NoMemory};
 use region_ledger::{FastPart, Finished, Row, judge};
 use track_state::{Track, same};
 
 /// What a part of the program comes to.
-#[derive(Clone, Copy, Debug, PartialEq, Eq)]
+#[derive(Drop)]
 pub enum Step {
     /// A region closed.
-    Region(Row),
+    Region(Region),
     /// The program ended, or its budget was spent, before any further region closed.
     Finished(Finished),
 }
 
+/// A region that its original closed.
+#[derive(Drop)]
+pub struct Region {
+    pub row: Row,
+    /// The original, at the closing call.
+    pub original: Track,
+    /// The fast version, where the verdict on it was clear: it took at most as many instructions as the original.
+    pub fast: Track,
+}
+
+impl Region {
+    ghost use Rattle.std.specs.Prelude.{◌≡◌, IfOk};
+    ghost use Rattle.speculation.specs.declared.tracks.Kind.TheVariants.{Normal, Segment};
+    ghost use Rattle.track_state.specs.Views.{view_of, begun};
+    ghost use Rattle.track_state.specs.Transitions.{IsAtBoundary};
+
+    /// The segment behind the region: the program goes on from where the original closed it.
+    ///
+    /// # Errors
+    /// `NoMemory` where there was no room for its pages.
+    pub fn go_on(self) -> Result<Track, NoMemory>
+        requires { IsAtBoundary Normal (view_of self.original) }
+        ensures { IfOk result (λ t. view_of t ≡ begun Segment (view_of self.original).state (view_of self.original).budget) }
+    {
+        let Region { mut original, .. } = self;
+        original.go_on()?;
+        Ok(original)
+    }
+}
+
 /// Runs both versions of the region at whose opening call the segment stands, after `at` instructions of the program and
-/// with `left` still in its budget. Where the region closes, the track goes on as the segment behind it.
+/// with `left` still in its budget.
 ///
 /// # Errors
 /// `NoMemory` where there was no room for the pages of a track.
 pub fn pass_region(
-    track: &mut Track,
+    mut track: Track,
     input: &[u8],
     number: u64,
     at: u64,
     left: u64,
 ) -> Result<Step, NoMemory>
-    requires call { IsAtBoundary Segment (view_of track.old) }
-    requires guest { IsGuestState input.now (view_of track.old).state }
-    requires budget { left ≤ (view_of track.old).budget }
+    requires call { IsAtBoundary Segment (view_of track) }
+    requires guest { IsGuestState input.now (view_of track).state }
+    requires budget { left ≤ (view_of track).budget }
     requires sum { at + left < 2 ^ 64 }
-    ensures { IfOk result (λ step. Steps input.now (view_of track.old).state at left number step (view_of track.new) (view_of track.old).budget) }
+    ensures { IfOk result (λ step. Steps input.now (view_of track).state at left number step (view_of track).budget) }
 {
     let mut original = track.fork()?.normal;
     let reached = reach(&mut original, input, left)?;
     if let Some(finished) = reached.finished(at + original.own()) {
         return Ok(Step::Finished(finished));
     }
-    let row = judge_fast(track, &original, input, number, at)?;
-    original.go_on()?;
-    *track = original;
-    Ok(Step::Region(row))
+    let mut fast = track;
+    let row = judge_fast(&mut fast, &original, input, number, at)?;
+    Ok(Step::Region(Region {
+        row,
+        original,
+        fast,
+    }))
 }
 
 /// The row of the region that the original closed.
@@ -68,7 +101,8 @@ fn judge_fast(
 ) -> Result<Row, NoMemory>
     requires original { IsClosed input.now (view_of original.now) }
     requires fast { view_of fast.old ≡ begun Fast (view_of original.now).start (view_of original.now).budget }
-    ensures { IfOk result (λ row. ledger_row row ≡ row_at (rv32 input.now) (view_of original.now).start number at (view_of original.now).own) }
+    ensures row { IfOk result (λ row. ledger_row row ≡ row_at (rv32 input.now) (view_of original.now).start number at (view_of original.now).own) }
+    ensures fast { IfOk result (λ row. RunsOn input.now (view_of fast.old) (view_of fast.new) (view_of original.now).own) }
 {
     let count = original.own();
     let part = try_fast(fast, original, input)?;
@@ -91,6 +125,7 @@ fn try_fast(fast: &mut Track, original: &Track, input: &[u8]) -> Result<FastPart
     requires fast { view_of fast.old ≡ begun Fast (view_of original.now).start (view_of original.now).budget }
     ensures sees { IfOk result (λ part. Sees (rv32 input.now) (view_of original.now).start (view_of original.now).own (seen part)) }
     ensures decided { IfOk result (λ part. judge (view_of original.now).own (seen part) ≢ None) }
+    ensures fast { IfOk result (λ part. RunsOn input.now (view_of fast.old) (view_of fast.new) (view_of original.now).own) }
 {
     match reach(fast, input, original.own())? {
         Reached::Boundary => Ok(FastPart::Closed {

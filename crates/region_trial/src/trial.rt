@@ -10,8 +10,8 @@ ghost use Rattle.track_state.specs.Views.{view_of, begun};
 ghost use Rattle.region_trial.specs.Trials.{IsTrialOf};
 ghost use Rattle.region_trial.specs.Regions.{Steps};
 
-use crate::reach::reach;
 use crate::region::{Step, pass_region};
+use crate::running::reach;
 use elf32_loader::Loaded;
 use guest_model::{NoMemory, Regs, State};
 use paged_image::PagedImage;
@@ -41,14 +41,15 @@ pub fn run_trial(
     requires within { budget ≤ 2 ^ 40 }
     ensures { IfOk result (IsTrialOf loaded.now input.now budget) }
 {
-    let mut track = Track::begin(alloc, Kind::Segment, start(alloc, loaded)?, budget)?;
+    let mut track = begin(alloc, loaded, budget)?;
     let mut rows = Vec::new(alloc);
     let mut at = 0;
     loop {
-        match next_region(&mut track, input, rows.len() as u64, at, budget - at)? {
-            Step::Region(row) => {
-                at = row.at + row.original;
-                rows.push(row)?;
+        match next_region(track, input, rows.len() as u64, at, budget - at)? {
+            Step::Region(region) => {
+                at = region.row.at + region.row.original;
+                rows.push(region.row)?;
+                track = region.go_on()?;
             }
             Step::Finished(finished) => {
                 return Ok(Trial {
@@ -58,6 +59,17 @@ pub fn run_trial(
             }
         }
     }
+}
+
+/// The segment with which the program of an image begins. It and all tracks that come of it may take `budget` instructions
+/// each.
+///
+/// # Errors
+/// `NoMemory` where there was no room for its pages.
+pub fn begin(alloc: Global, loaded: &Loaded, budget: u64) -> Result<Track, NoMemory>
+    ensures { IfOk result (λ t. view_of t ≡ begun Segment (start_of (image_of_loaded loaded.now)) budget) }
+{
+    Track::begin(alloc, Kind::Segment, start(alloc, loaded)?, budget)
 }
 
 /// The state in which the program of an image starts.
@@ -73,21 +85,24 @@ fn start(alloc: Global, loaded: &Loaded) -> Result<TrackState, NoMemory>
 }
 
 /// Runs the program on to its next region and over it, from a segment's start after `at` instructions of the program and
-/// with `left` still in its budget. The track goes on as the segment behind the region.
-fn next_region(
-    track: &mut Track,
+/// with `left` still in its budget. `number` is the row's.
+///
+/// # Errors
+/// `NoMemory` where there was no room for the pages of a track.
+pub fn next_region(
+    mut track: Track,
     input: &[u8],
     number: u64,
     at: u64,
     left: u64,
 ) -> Result<Step, NoMemory>
-    requires track { view_of track.old ≡ begun Segment (view_of track.old).start (view_of track.old).budget }
-    requires guest { IsGuestState input.now (view_of track.old).start }
-    requires budget { left ≤ (view_of track.old).budget }
+    requires track { view_of track ≡ begun Segment (view_of track).start (view_of track).budget }
+    requires guest { IsGuestState input.now (view_of track).start }
+    requires budget { left ≤ (view_of track).budget }
     requires sum { at + left < 2 ^ 64 }
-    ensures { IfOk result (λ step. Steps input.now (view_of track.old).start at left number step (view_of track.new) (view_of track.old).budget) }
+    ensures { IfOk result (λ step. Steps input.now (view_of track).start at left number step (view_of track).budget) }
 {
-    let reached = reach(track, input, left)?;
+    let reached = reach(&mut track, input, left)?;
     let own = track.own();
     match reached.finished(at + own) {
         Some(finished) => Ok(Step::Finished(finished)),

@@ -4,6 +4,7 @@
 
 mod address;
 mod bench;
+mod byte;
 mod end;
 mod row;
 mod state;
@@ -13,6 +14,7 @@ mod verdict;
 
 pub use address::Address;
 pub use bench::bench_text;
+pub use byte::write_digits;
 pub use end::end_text;
 pub use row::row_text;
 pub use state::state_text;

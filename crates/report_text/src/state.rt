@@ -1,33 +1,15 @@
 //! The state of a program as text.
 
-ghost use Rattle.std.specs.Prelude.{◌≡◌, ◌++◌, OnOk, IfOk, flat_map, string_bytes};
+ghost use Rattle.std.specs.Prelude.{◌≡◌, ◌++◌, OnOk, IfOk, string_bytes};
 ghost use Rattle.guest_model.specs.MachineState.{flat};
 ghost use Rattle.report_text.specs.States.{registers_line, bytes_line, asked_bytes, state_lines};
-ghost use Rattle.report_text.specs.Texts.{byte_text};
 
 use crate::address::Address;
+use crate::byte::write_digits;
 use crate::end::EndText;
 use basic_types::NoMemory;
 use guest_model::{End, Memory, Regs, State};
 use std::alloc::Global;
-use std::fmt;
-
-/// A byte, which prints as two hexadecimal digits in lower case.
-#[derive(Clone, Copy)]
-struct ByteText(u8);
-
-#[tactic(auto, using(std::proofs::lemmas::Fmt::hex_byte))]
-impl fmt::Display for ByteText {
-    ghost use Rattle.std.specs.Prelude.{Some};
-    ghost use Rattle.report_text.specs.Texts.{byte_text};
-
-    ghost output = { λ b. Some (byte_text b.0) };
-
-    fn fmt<W: fmt::Write>(&self, f: &mut fmt::Formatter<W>) -> fmt::Result {
-        let byte = self.0;
-        write!(f, "{byte:02x}")
-    }
-}
 
 /// The lines that tell of a program after `count` instructions, of which it took `taken`: pc, place and break of its state,
 /// the registers, the end, and, where asked for, the bytes at an address. These are given by address and number.
@@ -104,17 +86,6 @@ fn write_bytes<M: Memory>(
         write!(text, "\n")?;
     } else {
         write!(text, "bytes {address} unmapped\n")?;
-    }
-    Ok(())
-}
-
-/// Adds two digits for each byte.
-fn write_digits(bytes: &[u8], text: &mut String) -> Result<(), NoMemory>
-    ensures { OnOk result (string_bytes text.new ≡ string_bytes text.old ++ flat_map byte_text bytes.now) }
-{
-    for byte in bytes {
-        let digits = ByteText(*byte);
-        write!(text, "{digits}")?;
     }
     Ok(())
 }

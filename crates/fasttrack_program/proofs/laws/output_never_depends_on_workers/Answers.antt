@@ -5,7 +5,7 @@ use Rattle.speculation.specs.Record.{output_of}
 use Rattle.speculation.specs.Run.{marked}
 use Rattle.program_words.specs.declared.request.Task.{Task}
 use Rattle.program_words.specs.declared.request.Task.TheVariants as Tasks
-use Rattle.program_words.specs.declared.request.Task.TheVariants.{Alone, Fast, Run, Trial, Bench, Check, Batch, At, Pack}
+use Rattle.program_words.specs.declared.request.Task.TheVariants.{Alone, Fast, Run, Trial, Explain, Bench, Check, Batch, At, Pack}
 use Rattle.program_words.specs.CommandLine.{Request}
 use Rattle.fasttrack_program.specs.Plan.{Found, shows, plan_for}
 use Rattle.fasttrack_program.specs.Promise.{Given, alone_on, promise_of, texts_behind}
@@ -26,6 +26,7 @@ returns-clause-writes c = by_task
     by_task Fast g workers entries others h = refl
     by_task Run g workers entries others h = ap (λ (text : List ℕ). output_of (alone_on g) ++ marked 2 text) (texts g entries others h)
     by_task Trial g workers entries others h = refl
+    by_task Explain g workers entries others h = refl
     by_task (Bench number) g workers entries others h = refl
     by_task Check g workers entries others h = refl
     by_task Batch g workers entries others h = refl
@@ -41,6 +42,7 @@ returns-clause-answers c = by_task
     by_task Fast g workers = refl
     by_task Run g workers = refl
     by_task Trial g workers = refl
+    by_task Explain g workers = refl
     by_task (Bench number) g workers = refl
     by_task Check g workers = refl
     by_task Batch g workers = refl
@@ -60,5 +62,6 @@ returns-clause-texts c = λ request found workers shown. by_task request found w
     by_task r found workers Fast h = absurd (cc)
     by_task r found workers Run h = absurd (cc)
     by_task r found workers Trial h = absurd (cc)
+    by_task r found workers Explain h = absurd (cc)
     by_task r found workers (Bench number) h = absurd (cc)
     by_task r found workers Batch h = absurd (cc)

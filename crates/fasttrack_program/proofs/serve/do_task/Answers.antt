@@ -6,3 +6,6 @@ returns-in-Trial g c = rw c.in-Trial.is (c.show_trial.ensures (sinks_of g.O.Sink
 
 pub returns-in-Bench : goal.returns-in-Bench
 returns-in-Bench g c = rw c.in-Bench.is (c.show_bench.ensures (sinks_of g.O.Sink g.N.Sink c.args.out.now c.args.notes.now))
+
+pub returns-in-Explain : goal.returns-in-Explain
+returns-in-Explain g c = rw c.in-Explain.is (c.show_explanation.ensures (sinks_of g.O.Sink g.N.Sink c.args.out.now c.args.notes.now))

@@ -7,8 +7,8 @@ use Rattle.region_ledger.specs.Ledger.{ledger_row, seen}
 use Rattle.region_trial.proofs.OnRegions.{row-is}
 use Rattle.region_trial.proofs.region.judge_fast.Goals as goal
 
-pub returns : goal.returns
-returns c =
+pub returns-clause-row : goal.returns-clause-row
+returns-clause-row c =
     let s = (view_of c.args.original.now).start in
     subst (λ n. ledger_row (record { number = c.args.number; at = c.args.at; pc = c.pc.result; original = n; fast = c.in-Some.steps; verdict = c.in-Some.verdict }) ≡ row_at (rv32 c.args.input.now) s c.args.number c.args.at (view_of c.args.original.now).own)
     (sym c.own-count.ensures.own)

@@ -30,13 +30,12 @@ returns-in-None c =
     let ran = c.in_ok-reached.ensures.track in
     let kind : t.kind ≡ Segment = ran.kind ∙ ap (λ v. v.kind) c.requires.track in
     let here = stands-boundary c.args.input.now t c.args.left (c.args.at + c.own-own.result) c.in_ok-reached.reached c.in_ok-reached.ensures.stands (sym c.in-None.ensures) in
-    let new = view_of c.pass_region.new.track in
     IfOk-weaker c.pass_region.result
-    (λ step. Steps c.args.input.now t.state (c.args.at + c.own-own.result) (c.args.left - c.own-own.result) c.args.number step new t.budget)
-    (λ step. Steps c.args.input.now (view_of c.args.track.now).start c.args.at c.args.left c.args.number step new (view_of c.args.track.now).budget)
+    (λ step. Steps c.args.input.now t.state (c.args.at + c.own-own.result) (c.args.left - c.own-own.result) c.args.number step t.budget)
+    (λ step. Steps c.args.input.now (view_of c.args.track).start c.args.at c.args.left c.args.number step (view_of c.args.track).budget)
     (λ step h.
-    subst (λ s. Steps c.args.input.now s c.args.at c.args.left c.args.number step new (view_of c.args.track.now).budget) ran.start
-    (segment-steps c.args.input.now t c.args.at c.args.left c.args.number step new (view_of c.args.track.now).budget kind ran.way here
-    (subst (λ b. Steps c.args.input.now t.state (c.args.at + t.own) (c.args.left - t.own) c.args.number step new b) ran.budget
-    (subst (λ n. Steps c.args.input.now t.state (c.args.at + n) (c.args.left - n) c.args.number step new t.budget) c.own-own.ensures.own h))))
+    subst (λ s. Steps c.args.input.now s c.args.at c.args.left c.args.number step (view_of c.args.track).budget) ran.start
+    (segment-steps c.args.input.now t c.args.at c.args.left c.args.number step (view_of c.args.track).budget kind ran.way here
+    (subst (λ b. Steps c.args.input.now t.state (c.args.at + t.own) (c.args.left - t.own) c.args.number step b) ran.budget
+    (subst (λ n. Steps c.args.input.now t.state (c.args.at + n) (c.args.left - n) c.args.number step t.budget) c.own-own.ensures.own h))))
     c.pass_region.ensures

@@ -1,0 +1,2 @@
+pub mod OnDifferences
+pub mod OnFirstLine

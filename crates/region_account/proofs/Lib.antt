@@ -1,0 +1,3 @@
+pub mod OnExplanation
+pub mod OnFast
+pub mod OnReported
